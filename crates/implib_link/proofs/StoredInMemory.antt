@@ -1,8 +1,8 @@
 -- Fields for the address of a name hold it, in memory at any base.
-use Rattle.std.proofs.Common.{◌≡◌, ℕ, ◌+◌, ◌*◌, ◌^◌, ◌<◌, ◌≤◌, List, ◌++◌, [], ◌∷◌, length, None, Some, refl, sym, subst, arith}
+use Rattle.std.proofs.Common.{◌≡◌, ℕ, ◌+◌, ◌*◌, ◌^◌, ◌<◌, ◌≤◌, List, ◌++◌, [], ◌∷◌, length, Some, refl, sym, subst, arith}
 use Rattle.std.specs.List.{AllByRecursion, Contains}
 use Rattle.implib.specs.declared.machine.MachineType.{MachineType}
-use Rattle.implib.specs.declared.machine.MachineType.TheVariants.{I386, ARMNT, AMD64, ARM64}
+use Rattle.implib.specs.declared.machine.MachineType.TheVariants.{ARM64}
 use Rattle.implib.specs.Formats.Constants.{arm64_pagebase_rel21}
 use Rattle.implib.specs.Formats.Object.{ASymbol, ObjectSymbol}
 use Rattle.implib.specs.Link.Image.{Range}
@@ -12,7 +12,7 @@ use Rattle.implib.specs.Link.Resolution.{definitions_of}
 use Rattle.implib.specs.Members.ImportTables.{thunk_width}
 use Rattle.implib.proofs.Link.LinkedMembers.{among_contains}
 use Rattle.implib.proofs.Link.Ranges.{Among, all_among}
-use Rattle.implib_link.specs.Gnu.Fields.{field_width, DefinesIn, LinkedCode, MeetsAlone, field_at, HasPageField, HasPointer, Names, absolute_width, StubAt, placed_code, StubArrives}
+use Rattle.implib_link.specs.Gnu.Fields.{field_width, DefinesIn, LinkedCode, MeetsAlone, field_at, HasPageField, HasPointer, Names, StubAt, placed_code, StubArrives}
 use Rattle.implib_link.specs.Gnu.Stored.{HasAddField, HasRelative, HoldAddress, HoldsFurther, IsImageRelative, SumArrives, arm64_pageoffset_12a, AreStoredInMemory, PointsTo}
 use Rattle.implib_link.proofs.Gnu.FieldsInMemory.{Settles, StoredRests, field_there, linked_there, own_end, settled_in_tables, stored_in_memory, stored_rests}
 use Rattle.implib_link.proofs.Gnu.Loaded.{Covers}
@@ -33,9 +33,6 @@ use Rattle.implib_link.proofs.Tables.{covering, entry_in, stub_in_memory, thunk_
 
 relative_width : (machine : MachineType) (type : ℕ) → IsImageRelative machine type → field_width machine type ≡ 4
 relative_width machine type relative = grind arith
-
-relative_steady : (machine : MachineType) (type : ℕ) → IsImageRelative machine type → absolute_width machine type ≡ None
-relative_steady machine type relative = grind arith
 
 module _ (machine : MachineType) (image_base : ℕ) (image : List Range) (linked : List Placed) (codes : List LinkedCode) (targets : LinkedCode → ℕ → ℕ) (memory : List Range)
     (stored : StoredRests machine image_base image linked codes targets memory) (written : List Range) (covers_it : AllByRecursion (Covers image) written) where
@@ -59,9 +56,7 @@ module _ (machine : MachineType) (image_base : ℕ) (image : List Range) (linked
     whole_holds c offset fits held has =
         let found = field_there machine image_base image linked codes targets memory stored.rests written covers_it c (contains_among c codes held) offset has.type has.field.symbol has.field.alone has.field.inside target
         (settled c has.field.symbol held has.field.names) in
-        subst (λ n. NumberAt (written ++ memory) (thunk_width machine) (c.position + offset) n)
-        (grind (arith, dir32_is, addr64_is, has.stores, has.empty))
-        (subst (λ w. NumberAt (written ++ memory) w (c.position + offset) (found.0 w)) (pointer_width machine has.type has.stores) found.1.0)
+        grind (arith, dir32_is, addr64_is, pointer_width)
 
     -- a field of a type that Fields leaves out, as it was linked
     further_holds : (c : LinkedCode) (offset type symbol : ℕ) → Contains codes c → MeetsAlone machine c.code.relocations offset (field_width machine type) (record { offset = offset; symbol = symbol; kind = type }) →
@@ -73,10 +68,8 @@ module _ (machine : MachineType) (image_base : ℕ) (image : List Range) (linked
     relative_holds : (c : LinkedCode) (offset : ℕ) → Contains codes c → HasRelative machine c offset name → NumberAt (written ++ memory) 4 (c.position + offset) target
     relative_holds c offset held has =
         let there = linked_there machine image_base image linked codes targets memory stored.rests written covers_it c (contains_among c codes held) offset has.type has.field.symbol has.field.alone has.field.inside
-        (relative_steady machine has.type has.relative) in
-        let holds = further_holds c offset has.type has.field.symbol held has.field.alone has.field.inside has.field.names in
-        subst (λ n. NumberAt (written ++ memory) 4 (c.position + offset) n) (omega (arith, holds.relative has.relative, has.empty))
-        (subst (λ w. NumberAt (written ++ memory) w (c.position + offset) (field_at c.bytes offset w)) (relative_width machine has.type has.relative) there)
+        (grind arith) in
+        grind (arith, further_holds c offset has.type has.field.symbol held has.field.alone has.field.inside has.field.names, relative_width machine has.type has.relative)
 
 -- ARM64's two instructions.
 sum_holds : (image_base : ℕ) (image : List Range) (linked : List Placed) (codes : List LinkedCode) (targets : LinkedCode → ℕ → ℕ) (memory : List Range) (stored : StoredRests ARM64 image_base image linked codes targets memory)
@@ -92,27 +85,16 @@ sum_holds image_base image linked codes targets memory stored written covers_it 
     add_field.field.inside refl in
     let added = (further_holds ARM64 image_base image linked codes targets memory stored written covers_it name target small settled d second arm64_pageoffset_12a add_field.field.symbol d_held add_field.field.alone
     add_field.field.inside add_field.field.names).added refl refl add_field.adds in
-    let add : ℕ = field_at d.bytes second 4 in
-    record {
-      adrp = paged.0 4;
-      adrp_there = paged.1.0;
-      is_adrp = (paged.1.1.page_of refl).0;
-      add = add;
-      add_there = there;
-      is_add = added.0;
-      leads = grind (arith, own_end ARM64 image_base image linked codes targets memory stored.rests written covers_it c m, pair_leads, page_leads);
-    }
+    grind (arith, own_end ARM64 image_base image linked codes targets memory stored.rests written covers_it c m, pair_leads, page_leads)
 
 sums_hold : (machine : MachineType) (image_base : ℕ) (image : List Range) (linked : List Placed) (codes : List LinkedCode) (targets : LinkedCode → ℕ → ℕ) (memory : List Range)
     (stored : StoredRests machine image_base image linked codes targets memory) (written : List Range) → AllByRecursion (Covers image) written → (name : List ℕ) (target : ℕ) → target < 2 ^ 31 →
     ((c : LinkedCode) (symbol : ℕ) → Contains codes c → Names c.from symbol name → Settles machine image_base image linked codes targets memory stored.rests c symbol target) → (c d : LinkedCode) (first second : ℕ) → machine ≡ ARM64 →
     Contains codes c → Contains codes d → HasPageField c first name → HasAddField d second name →
     SumArrives image_base (written ++ memory) (c.position + first) (d.position + second) (field_at c.code.bytes first 4) (field_at d.code.bytes second 4) target
-sums_hold I386 image_base image linked codes targets memory stored written covers_it name target small settled c d first second is c_held d_held page_field add_field = cc
-sums_hold ARMNT image_base image linked codes targets memory stored written covers_it name target small settled c d first second is c_held d_held page_field add_field = cc
-sums_hold AMD64 image_base image linked codes targets memory stored written covers_it name target small settled c d first second is c_held d_held page_field add_field = cc
 sums_hold ARM64 image_base image linked codes targets memory stored written covers_it name target small settled c d first second is c_held d_held page_field add_field =
     sum_holds image_base image linked codes targets memory stored written covers_it name target small settled c d first second c_held d_held page_field add_field
+sums_hold machine image_base image linked codes targets memory stored written covers_it name target small settled c d first second is c_held d_held page_field add_field = cc
 
 pub holds_address : (machine : MachineType) (image_base : ℕ) (image : List Range) (linked : List Placed) (codes : List LinkedCode) (targets : LinkedCode → ℕ → ℕ) (memory : List Range)
     (stored : StoredRests machine image_base image linked codes targets memory) (written : List Range) → AllByRecursion (Covers image) written → (name : List ℕ) (target : ℕ) → target < 2 ^ 31 →

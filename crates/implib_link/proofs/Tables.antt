@@ -4,7 +4,6 @@ use Rattle.std.proofs.lemmas.Grind.{common_steps}
 use Rattle.std.specs.Prelude.{slice_get, option_map}
 use Rattle.std.specs.List.{AllByRecursion, Contains}
 use Rattle.implib.specs.declared.machine.MachineType.{MachineType}
-use Rattle.implib.specs.declared.machine.MachineType.TheVariants.{I386, ARMNT, AMD64, ARM64}
 use Rattle.implib.specs.Import.{Ask, imp_symbol}
 use Rattle.implib.specs.Link.Image.{Range, range_end, image_of}
 use Rattle.implib.specs.Link.Load.{NumberAt, BytesAt}
@@ -94,19 +93,15 @@ are_packed machine image linked directory addresses blocks starts ends is_direct
 
 pub packed_get : (width : ℕ) (blocks : List Block) (address i : ℕ) (b : Block) → slice_get blocks i ≡ Some b →
     slice_get (packed_tables width address blocks) i ≡ Some (record { dll = b.dll; address = address + width * entries_until i blocks; entries = b.entries })
-packed_get width [] address i b is = cc
-packed_get width (c ∷ blocks) address zero b is = grind arith
 packed_get width (c ∷ blocks) address (suc i) b is = grind (arith, packed_get width blocks (address + width * (length c.entries + 1)) i b is)
+packed_get width blocks address i b is = grind arith
 
 -- a machine that can read from an address on can read each packed table
 pub eights : (a n : ℕ) → a % 8 ≡ 0 → (a + 8 * n) % 8 ≡ 0
 eights a n even = omega arith
 
 pub reads_further : (machine : MachineType) (image_base addresses n : ℕ) → CanReadFrom machine image_base addresses → CanReadFrom machine image_base (addresses + thunk_width machine * n)
-reads_further I386 image_base addresses n can = can
-reads_further ARMNT image_base addresses n can = can
-reads_further AMD64 image_base addresses n can = can
-reads_further ARM64 image_base addresses n can = (can.0, eights addresses n can.1)
+reads_further machine image_base addresses n can = grind (arith, eights)
 
 -- the tables of as many blocks
 pub packed_count : (width : ℕ) (blocks : List Block) (address : ℕ) → length (packed_tables width address blocks) ≡ length blocks
@@ -247,9 +242,8 @@ tables_can_be_written machine t gives tables =
 pub nth_symbol : (linked : List Placed) (width a : ℕ) (names : List (List ℕ)) (j : ℕ) (name : List ℕ) → SymbolsAt linked width a names → slice_get names j ≡ Some name →
     definitions_of name linked ≡ record { name = name; address = Some (a + width * j) } ∷ []
 unfolding SymbolsAt
-nth_symbol linked width a [] j name entries is = cc
-nth_symbol linked width a (x ∷ names) zero name entries is = grind arith
 nth_symbol linked width a (x ∷ names) (suc j) name entries is = grind (arith, nth_symbol linked width (a + width) names j name entries.1 is)
+nth_symbol linked width a names j name entries is = grind arith
 
 -- the entry of the j-th chosen export
 pub entry_of : (machine : MachineType) (ending : Ending) (bases : Bases) (inputs : List FlavorInput) (objects : List Object) (i j : ℕ) (p : FlavorInput) (e : ExportView) → ProgramLinks machine ending bases inputs objects →
@@ -270,9 +264,8 @@ inputs_blocks machine [] = refl
 inputs_blocks machine (p ∷ inputs) = simp (inputs_blocks machine inputs, asks_again)
 
 pub inputs_until : (machine : MachineType) (i : ℕ) (inputs : List FlavorInput) → entries_until i (map (block_of_flavor machine) inputs) ≡ thunks_of i inputs
-inputs_until machine zero inputs = refl
-inputs_until machine (suc i) [] = refl
 inputs_until machine (suc i) (p ∷ inputs) = grind (arith, length-map, inputs_until machine i inputs)
+inputs_until machine i inputs = cc
 
 pub program_tables : (machine : MachineType) (ending : Ending) (bases : Bases) (inputs : List FlavorInput) (objects : List Object) → AllByRecursion (IsMadeFor machine) inputs → IsProgramOf machine ending bases inputs objects →
     AreTables machine (tables_at machine bases objects (map (block_of_flavor machine) inputs))
@@ -314,9 +307,8 @@ program_entry machine bases inputs objects i j p e input chosen =
 
 packed_until : (width : ℕ) (blocks : List Block) (address i : ℕ) (x : Table) → slice_get (packed_tables width address blocks) i ≡ Some x →
     address + width * thunks_until i (map imported_by_table (packed_tables width address blocks)) ≡ x.address
-packed_until width [] address i x is = cc
-packed_until width (b ∷ blocks) address zero x is = grind arith
 packed_until width (b ∷ blocks) address (suc i) x is = grind (arith, packed_until width blocks (address + width * (length b.entries + 1)) i x is, i, length-map, table_sum, is)
+packed_until width blocks address i x is = grind arith
 
 pub pieces_tables : (machine : MachineType) (image : List Range) (linked : List Placed) (descriptors lookups addresses hints names : ℕ) (blocks : List Block) →
     AllByRecursion (λ r. 0 < r.start) image → AllByRecursion (λ r. range_end r < 2 ^ 31) image → AllByRecursion IsImportable (map imported_by_table (packed_tables (thunk_width machine) addresses blocks)) →
@@ -348,9 +340,8 @@ groups_blocks (group ∷ groups) =
     ∙ ap (λ is. imported_by group ∷ is) (groups_blocks groups)
 
 pub groups_until : (i : ℕ) (groups : List (List ShortImport)) → entries_until i (map block_of_group groups) ≡ thunks_until i (map imported_by groups)
-groups_until zero groups = refl
-groups_until (suc i) [] = refl
 groups_until (suc i) (group ∷ groups) = grind (arith, groups_until i groups, i, length-map)
+groups_until i groups = cc
 
 module _ (machine : MachineType) (descriptors addresses : ℕ) (taken : List ShortImport) (image : List Range) (linked : List Placed)
     (program : IsLldProgram machine descriptors addresses taken image linked) where
@@ -397,10 +388,7 @@ pub program_count : (machine : MachineType) (bases : Bases) (inputs : List Flavo
 program_count machine bases inputs objects = packed_count (thunk_width machine) (map (block_of_flavor machine) inputs) bases.addresses ∙ length-map inputs (block_of_flavor machine)
 
 jumps_read : (machine : MachineType) (image_base : ℕ) (bases : Bases) → CanJump machine image_base bases → CanReadFrom machine image_base bases.addresses
-jumps_read I386 image_base bases can = can
-jumps_read ARMNT image_base bases can = can
-jumps_read AMD64 image_base bases can = can
-jumps_read ARM64 image_base bases can = can
+jumps_read machine image_base bases can = grind arith
 
 pub can_read : (machine : MachineType) (image_base : ℕ) (bases : Bases) (n : ℕ) → CanJump machine image_base bases → CanReadFrom machine image_base (bases.addresses + thunk_width machine * n)
 can_read machine image_base bases n can = reads_further machine image_base bases.addresses n (jumps_read machine image_base bases can)
@@ -417,10 +405,7 @@ weak_is_weak machine weak target section_addresses linked = rw (same_text weak) 
 
 -- a machine that can read a table from its address on can read each entry
 pub entry_reached : (machine : MachineType) (image_base address j : ℕ) → CanReadFrom machine image_base address → CanReach machine image_base (address + thunk_width machine * j)
-entry_reached I386 image_base address j can = can
-entry_reached ARMNT image_base address j can = can
-entry_reached AMD64 image_base address j can = can
-entry_reached ARM64 image_base address j can = (can.0, eights address j can.1)
+entry_reached machine image_base address j can = grind (arith, eights)
 
 -- What is known of one entry of loaded tables.
 pub record EntryIn (machine : MachineType) (t : Tables) (written memory : List Range) (name given : List ℕ) (entry : ℕ) : Type 0 where
@@ -446,8 +431,7 @@ module _ (machine : MachineType) (image_base : ℕ) (t : Tables) (codes : List L
 
   pub tables_end_in_memory : (written : List Range) × ReadsAndWrites memory (thunk_width machine) gives (length t.tables) t.directory written
   tables_end_in_memory =
-      subst (λ n. (written : List Range) × ReadsAndWrites memory (thunk_width machine) gives n t.directory written) (length-map t.tables imported_by_table)
-      (memory_can_be_read t.image memory resting.image_kept (thunk_width machine) gives t.directory (map imported_by_table t.tables) tables.directory)
+      grind (arith, length-map t.tables imported_by_table, memory_can_be_read t.image memory resting.image_kept (thunk_width machine) gives t.directory (map imported_by_table t.tables) tables.directory)
 
   -- a loader that is handed the imports writes what one does that reads them in memory
   pub written_read : (written : List Range) → Writes t.image (thunk_width machine) gives t.directory (map imported_by_table t.tables) written →
@@ -482,11 +466,7 @@ module _ (machine : MachineType) (image_base : ℕ) (t : Tables) (codes : List L
         (entry_reached machine image_base x.address j can) own.located
 
     pub entry_known : (name dll : List ℕ) (ask : Ask) (address j : ℕ) → HasEntry t name dll ask address j → EntryIn machine t written memory name (gives dll ask) (address + thunk_width machine * j)
-    entry_known name dll ask address j own =
-        subst (λ a. EntryIn machine t written memory name (gives dll ask) (a + thunk_width machine * j)) own.at
-        (subst (λ d. EntryIn machine t written memory name (gives d ask) (own.table.address + thunk_width machine * j)) own.of_dll
-        (subst (λ a. EntryIn machine t written memory name (gives own.table.dll a) (own.table.address + thunk_width machine * j)) own.of_ask
-        (entry_in own.i j own.table own.entry name own.is own.asked own.symbol)))
+    entry_known name dll ask address j own = grind (arith, entry_in own.i j own.table own.entry name own.is own.asked own.symbol)
 
     pub entry_leads : (name dll : List ℕ) (ask : Ask) (address j : ℕ) → HasEntry t name dll ask address j → CanReadFrom machine image_base address →
         AllLead machine image_base t.linked codes (written ++ memory) name (gives dll ask)

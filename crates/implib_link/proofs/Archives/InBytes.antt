@@ -16,7 +16,7 @@ use Rattle.implib_archive.specs.Reader.{Name, Stored, member_at, Read, first_in}
 use Rattle.implib_archive.specs.declared.kind.Kind.{Kind}
 use Rattle.implib_archive.specs.declared.kind.Kind.TheVariants.{Coff, Gnu}
 use Rattle.implib_archive.proofs.Leading.{each_index_leads, each_second_leads, entries_texts, headers_found, near_at, short_places}
-use Rattle.implib_link.specs.Archives.InBytes.{AreTakenAt, First, LinkerMember, PullsInAt, Second, TakesAt, contents_at, header_by, AreHeadersOf, HaveArchive, IsHeaderOf, IsSearchOf, LeadsToFirst, TakesJust}
+use Rattle.implib_link.specs.Archives.InBytes.{AreTakenAt, LinkerMember, PullsInAt, Second, TakesAt, contents_at, header_by, AreHeadersOf, HaveArchive, IsHeaderOf, IsSearchOf, LeadsToFirst, TakesJust}
 use Rattle.implib.specs.Formats.Object.{Object}
 use Rattle.implib_link.specs.Search.Search.{AreTakenIntoAs, PullsIntoAs, TakesIntoAs, unresolved, first_listed, objects_as}
 use Rattle.implib_link.proofs.Search.Lists.{contains_among, any_among, distinct_apart}
@@ -67,30 +67,26 @@ first_is_header (x ∷ headers) (y ∷ members) name h m is = by_test (lists nam
 -- the first member's header is not below the first of all
 first_above : (low : ℕ) (headers : List ℕ) (members : List MemberView) (name : List ℕ) (h : ℕ) (m : MemberView) → AreRising low headers → first_lister headers members name ≡ Some (h, m) → low ≤ h
 unfolding AreRising
-first_above low [] members name h m rising is = absurd (cc)
-first_above low (x ∷ headers) [] name h m rising is = absurd (cc)
 first_above low (x ∷ headers) (y ∷ members) name h m rising is = grind (arith, first_above (x + 1) headers members name h m rising.1)
+first_above low headers members name h m rising is = cc
 
 -- and it lists the name
 first_lists : (headers : List ℕ) (members : List MemberView) (name : List ℕ) (h : ℕ) (m : MemberView) → first_lister headers members name ≡ Some (h, m) → lists name m ≡ true
-first_lists [] members name h m is = absurd (cc)
-first_lists (x ∷ headers) [] name h m is = absurd (cc)
 first_lists (x ∷ headers) (y ∷ members) name h m is = grind (arith, first_lists headers members name h m)
+first_lists headers members name h m is = cc
 
 -- two names that lead to one header lead to one member
 one_member : (low : ℕ) (headers : List ℕ) (members : List MemberView) (name other : List ℕ) (h : ℕ) (m o : MemberView) → AreRising low headers
     → first_lister headers members name ≡ Some (h, m) → first_lister headers members other ≡ Some (h, o) → m ≡ o
 unfolding AreRising
-one_member low [] members name other h m o rising is also = absurd (cc)
-one_member low (x ∷ headers) [] name other h m o rising is also = absurd (cc)
 one_member low (x ∷ headers) (y ∷ members) name other h m o rising is also = grind (arith, one_member (x + 1) headers members name other h m o rising.1, headers, rising, first_above, some_pair_parts)
+one_member low headers members name other h m o rising is also = cc
 
 -- two names that lead to one member lead to one header
 one_header : (headers : List ℕ) (members : List MemberView) (name other : List ℕ) (h k : ℕ) (m : MemberView)
     → first_lister headers members name ≡ Some (h, m) → first_lister headers members other ≡ Some (k, m) → h ≡ k
-one_header [] members name other h k m is also = absurd (cc)
-one_header (x ∷ headers) [] name other h k m is also = absurd (cc)
 one_header (x ∷ headers) (y ∷ members) name other h k m is also = grind (arith, one_header headers members name other h k m, headers, first_lists, some_pair_parts)
+one_header headers members name other h k m is also = cc
 
 first_member : (headers : List ℕ) (members : List MemberView) (name : List ℕ) → length headers ≡ length members → option_map (λ f. f.1) (first_lister headers members name) ≡ first_listed members name
 first_member [] [] name same = refl
@@ -113,10 +109,8 @@ ArePaired headers members (h ∷ taken) [] = ⊥
 
 paired_headers : (headers : List ℕ) (members : List MemberView) (taken : List ℕ) (found : List MemberView) → ArePaired headers members taken found → AreHeadersOf headers members taken found
 unfolding ArePaired AreHeadersOf
-paired_headers headers members [] [] paired = tt
 paired_headers headers members (h ∷ taken) (m ∷ found) paired = (first_is_header headers members paired.0.0 h m paired.0.1, paired_headers headers members taken found paired.1)
-paired_headers headers members [] (m ∷ found) paired = absurd paired
-paired_headers headers members (h ∷ taken) [] paired = absurd paired
+paired_headers headers members taken found paired = grind arith
 
 -- a member is taken exactly if its header is
 header_among : (headers : List ℕ) (members : List MemberView) (taken : List ℕ) (found : List MemberView) (name : List ℕ) (h : ℕ) (m : MemberView)
@@ -149,15 +143,13 @@ module _ (kind : Kind) (linker : LinkerMember) (bytes headers : List ℕ) (membe
 
   paired_read : (taken : List ℕ) (found : List MemberView) → ArePaired headers members taken found → map (member_at kind bytes) taken ≡ map (λ m. Some (read_view m)) found
   unfolding ArePaired
-  paired_read [] [] paired = refl
   paired_read (h ∷ taken) (m ∷ found) paired = cc (read_at h m (first_is_header headers members paired.0.0 h m paired.0.1), paired_read taken found paired.1)
-  paired_read taken found paired = absurd paired
+  paired_read taken found paired = grind arith
 
   contents_read : (taken : List ℕ) (found : List MemberView) → ArePaired headers members taken found → contents_at kind bytes taken ≡ map (λ m. m.bytes) found
   unfolding ArePaired
-  contents_read [] [] paired = refl
   contents_read (h ∷ taken) (m ∷ found) paired = cc (read_at h m (first_is_header headers members paired.0.0 h m paired.0.1), contents_read taken found paired.1)
-  contents_read taken found paired = absurd paired
+  contents_read taken found paired = grind arith
 
   module _ (own : List Object) (by : List ℕ → Option Object) where
     -- the objects of members in the bytes
@@ -300,9 +292,8 @@ module _ (kind : Kind) (linker : LinkerMember) (members : List MemberView) (read
 
 either_same : (kind : Kind) (linker : LinkerMember) (members : List MemberView) → HaveArchive kind linker members → (name : List ℕ) → header_by linker (archive_of kind members) name ≡ header_for (archive_of kind members) name
 unfolding header_by
-either_same kind First members ready name = refl
 either_same Coff Second members ready name = (each_second_leads members ready.accepted).same name
-either_same Gnu Second members ready name = absurd ready.has
+either_same kind linker members ready name = grind arith
 
 pub is_ready : (kind : Kind) (linker : LinkerMember) (members : List MemberView) (ready : HaveArchive kind linker members) → IsReady kind linker members ready
 is_ready kind linker members ready =
@@ -313,8 +304,7 @@ pub takes_just : (kind : Kind) (linker : LinkerMember) (members : List MemberVie
     → ((found : List MemberView) → TakesIntoAs reads members own found → P found) → TakesJust kind linker members reads own P
 takes_just kind linker members reads own P ready says taken takes =
     let r = is_ready kind linker members ready in
-    let back = search_back kind linker (archive_of kind members) r.headers members r.rising r.find r.many r.read own reads taken takes in
-    record { headers = r.headers; located = r.located; found = back.found; at = back.paired; read = back.read; holds = says back.found back.takes }
+    grind (arith, search_back kind linker (archive_of kind members) r.headers members r.rising r.find r.many r.read own reads taken takes)
 
 pub leads_to_first : (kind : Kind) (linker : LinkerMember) (members : List MemberView) → HaveArchive kind linker members → (name : List ℕ) → LeadsToFirst kind linker members name
 leads_to_first kind linker members ready name =

@@ -1,5 +1,5 @@
 -- The whole way for libraries of both flavours, by the laws on it.
-use Rattle.std.proofs.Common.{rules, arith, ◌+◌, ◌*◌, Bool, List, ℕ, map, ◌∙◌, ◌≡◌, true, false, [], ◌∷◌, ◌++◌, Option, None, Some, refl, ap, sym, subst, inl, inr}
+use Rattle.std.proofs.Common.{arith, ◌+◌, ◌*◌, Bool, List, ℕ, map, ◌∙◌, ◌≡◌, true, false, [], ◌∷◌, ◌++◌, Option, None, Some, refl, ap, sym, subst, inl, inr}
 use Rattle.std.specs.List.{AllByRecursion, Contains, IsDistinct, cons_option, filter, filter_map, flat_map, list_any}
 use Rattle.implib.specs.declared.machine.MachineType.{MachineType}
 use Rattle.implib.specs.Formats.Object.{Object}
@@ -22,16 +22,15 @@ use Rattle.implib_link.proofs.Search.Taken.{both_given_closes}
 use Rattle.implib_link.proofs.Tables.{tables_read, leads_beside, tables_load_in_memory, can_read, program_count, program_entry, program_tables, lld_tables}
 use Rattle.implib_link.specs.Tables.{AreTables, Tables, block_of_flavor, tables_at, tables_of_lld}
 use Rattle.implib_link.specs.Flavors.Expansion.{expanded_in, is_import_for}
-use Rattle.implib.specs.Import.{imp_symbol, Ask}
+use Rattle.implib.specs.Import.{imp_symbol}
 use Rattle.std.specs.Prelude.{bytes_eq, if◌then◌else◌}
-use Rattle.std.specs.Option.{option_and_then}
 use Rattle.std.proofs.lemmas.Bool.{cases_Bool, false_from_ne_true, true≢false}
 use Rattle.implib.specs.declared.flavor.Flavor.{Flavor}
 use Rattle.implib.specs.declared.flavor.Flavor.TheVariants.{Gnu, Msvc}
 use Rattle.implib.specs.Definition.{ExportView}
 use Rattle.std.proofs.lemmas.Slice.Eq.{bytes_eq-Decides}
 use Rattle.implib.specs.Formats.File.{ObjectFile}
-use Rattle.implib.specs.Formats.ShortImport.{ShortImport, ask_of_short_import, short_import_in}
+use Rattle.implib.specs.Formats.ShortImport.{ShortImport, ask_of_short_import}
 use Rattle.implib.specs.Link.Image.{Range}
 use Rattle.implib.specs.LibraryName.{NamesOfDll, linked_dll, names_for}
 use Rattle.implib.specs.Members.Members.{member_specs}
@@ -44,7 +43,7 @@ use Rattle.implib.proofs.Members.NotRefused.{Sound, exports_sound, import_name_i
 use Rattle.implib.proofs.Members.Import.{name_type_is_ordinal}
 use Rattle.implib.proofs.Link.LinkedMembers.{among_contains, among_map}
 use Rattle.implib.proofs.Link.Ranges.{Among, all_among, among_back, among_first, among_flat, among_front, among_later}
-use Rattle.implib_link.specs.Flavors.LldImports.{IsLldProgram, if_for, imp_symbols_of, in_small, short_for, IsAskable, IsImportable, BranchArrivesByThunk}
+use Rattle.implib_link.specs.Flavors.LldImports.{IsLldProgram, imp_symbols_of, in_small, short_for, IsAskable, IsImportable, BranchArrivesByThunk}
 use Rattle.implib_link.specs.Gnu.Fields.{AllLead}
 use Rattle.implib_link.proofs.Flavors.Block.{FitsIn}
 use Rattle.implib_link.proofs.Flavors.Expanded.{AskFits}
@@ -114,9 +113,7 @@ asks_so machine l e = rw (name_type_is_ordinal machine e) refl
 pub short_is_read : (machine : MachineType) (l : Library) (e : ExportView) → IsMsvcLibrary machine l → Among e (exports_of l) → short_for machine (short_of machine l e).bytes ≡ Some (short_of_export machine l e)
 unfolding short_for
 short_is_read machine l e made there =
-    let read : short_import_in (short_of machine l e).bytes ≡ Some (short_of_export machine l e) =
-    (grind (arith, read_of l.definition machine l.members [] made (short_import_spec machine (names_for Msvc l.definition) e) (short_at l.definition machine l.members [] made e there))) in
-    ap (option_and_then (if_for machine)) read ∙ ap (λ b. if b then Some (short_of_export machine l e) else None) (is_for machine l e)
+    grind (arith, read_of l.definition machine l.members [] made (short_import_spec machine (names_for Msvc l.definition) e) (short_at l.definition machine l.members [] made e there), is_for machine l e)
 
 -- What lld reads a member as claims what its expansion does.
 
@@ -225,22 +222,13 @@ module _ (machine : MachineType) (libraries : List Library) (archive : IsMsvcArc
           let read : Some (short_of_export machine l e) ≡ Some r = sym (short_is_read machine l e (made_of machine in_msvc of_all Msvc l held) there) ∙ ap (λ (y : MemberView). short_for machine y.bytes) (sym same) ∙ short in
           record { library = l; held = subst (Among l) (shorts_alone libraries) (msvc_there in_msvc l held); export = e; there = there; plain = is.1; is_member = same; is_short_import = sym (cc) }
 
-  -- which can be written
-  as_askable : (ask : Ask) → AskFits ask → IsAskable ask
-  unfolding AskFits IsAskable
-  as_askable ask fits = grind arith
-
   writable : (m : MemberView) (r : ShortImport) → OfExport m r → IsImportable (record { dll = r.dll; asks = ask_of_short_import r ∷ [] })
-  unfolding FitsIn
+  unfolding FitsIn AskFits IsAskable
   writable m r of =
       let own = short_made machine libraries archive of.library of.held in
       let fits : AskFits (ask_in Msvc machine of.export) =
       export_fits machine of.export (all_among Sound of.export (exports_of of.library) of.there (exports_sound of.library.definition machine Msvc of.library.members own)) in
-      subst (λ (s : ShortImport). IsImportable (record { dll = s.dll; asks = ask_of_short_import s ∷ [] })) (sym of.is_short_import)
-      (record {
-        name = import_name_is_free of.library.definition machine Msvc of.library.members own;
-        asks = (as_askable (ask_of_short_import (short_of_export machine of.library of.export)) (subst AskFits (sym (asks_so machine of.library of.export)) fits), tt);
-      })
+      grind (arith, import_name_is_free)
 
   -- and whose `__imp_` symbol its member is listed for
   lists_imp : (m : MemberView) (r : ShortImport) → OfExport m r → Among (imp_symbol r.symbol) m.symbols

@@ -1,5 +1,5 @@
 -- Where the descriptors and the address tables of blocks are, and the null descriptor after them.
-use Rattle.std.proofs.Common.{◌≡◌, ℕ, suc, ◌+◌, ◌*◌, ◌-◌, List, [], ◌∷◌, ◌++◌, length, map, refl, ap, sym, ◌∙◌, subst, arith, false, Some, inl, inr, ◌<◌, ◌^◌, None, if◌then◌else◌, zero}
+use Rattle.std.proofs.Common.{◌≡◌, ℕ, suc, ◌+◌, ◌*◌, List, [], ◌∷◌, ◌++◌, length, map, refl, ap, sym, subst, arith, false, Some, inl, inr, ◌<◌, ◌^◌, None, if◌then◌else◌, zero}
 use Rattle.std.proofs.Math.Nat.{mul-add}
 use Rattle.std.proofs.lemmas.List.{append_assoc, map-append}
 use Rattle.implib.specs.declared.machine.MachineType.{MachineType}
@@ -10,7 +10,7 @@ use Rattle.implib.specs.Members.ImportTables.{thunk_width, zeros}
 use Rattle.implib.specs.Formats.Object.{Object}
 use Rattle.implib.specs.Link.Placement.{Bases, Placed, next_multiple, ends_after, placed_from}
 use Rattle.implib.proofs.Link.LinkedBlocks.{Block, blocks_objects}
-use Rattle.implib.proofs.Link.Linked.{LocatedFrom, ends_of_block, BlockLinks, aligned_block, all_of_stub, block_defined, block_definitions, block_links, block_targets, definitions-block, head_definition, rest_located}
+use Rattle.implib.proofs.Link.Linked.{LocatedFrom, ends_of_block, aligned_block, all_of_stub, block_defined, block_definitions, block_links, block_targets, definitions-block, head_definition, rest_located}
 use Rattle.implib.proofs.Link.Placement.{AreAligned, aligned, descriptors_end, ends_of_all, ends_of_export, ends_of_exports, ends_of_head, export, head, tail, after_head, names-after}
 use Rattle.implib_link.specs.Flavors.Program.{null_descriptor, ClaimsNone, GetsAddress, claimed_names, names_claimed_in, Ending, IsFoundByName, OfLinker, OfMember, SymbolsAt, WhereMember, ask_in, descriptor_in, symbol_in}
 use Rattle.implib.specs.LibraryName.{NamesOfDll}
@@ -51,10 +51,7 @@ addresses_after machine dll b (e ∷ es) = grind (arith, addresses_after machine
 -- the null descriptor is where the descriptors end
 pub null_located : (machine : MachineType) (linked : List Placed) (image : List Range) (b : Bases) → AreAligned b →
     LocatedFrom machine linked image b (null_descriptor ∷ []) → BytesAt image b.descriptors (zeros 20)
-null_located machine linked image b even located =
-    let none : b.descriptors - b.descriptors ≡ 0 = omega arith in
-    let same : (zeros (next_multiple 4 b.descriptors - b.descriptors) ++ (zeros 20 ++ [])) ≡ zeros 20 = rw ((aligned b.descriptors even.descriptors), none) refl in
-    subst (BytesAt image b.descriptors) same located.descriptors
+null_located machine linked image b even located = grind (arith, aligned)
 
 pub plus_sum : (a n : ℕ) → a + 20 + 20 * n ≡ a + 20 * suc n
 plus_sum a n = omega arith
@@ -212,11 +209,6 @@ pub definitions-in : (machine : MachineType) (ending : Ending) (flavor : Flavor)
 unfolding descriptor_definition with_section_symbols object_of descriptor entries_of name_text
 definitions-in machine ending flavor dll b es rest suits even = grind (arith, even_wide, placed-descriptor, definitions-behind, ends_of_descriptor, wide_descriptor, definitions-block, even_aligned)
 
-pub names-in : (machine : MachineType) (flavor : Flavor) (dll : NamesOfDll) (b : Bases) (es : List ExportView) →
-    map (λ (d : SymbolDefinition). d.name) (definitions_in machine flavor dll b es) ≡ symbols_of machine flavor dll es
-unfolding descriptor_definition block_definitions head_definition
-names-in machine flavor dll b es = grind (arith, names-behind, ends_of_descriptor, names-after)
-
 gnu_exports_wide : (machine : MachineType) (dll : NamesOfDll) (b : Bases) (es : List ExportView) → AreWide machine b → AreWide machine (ends_of_all machine dll b es)
 unfolding ends_of_exports
 gnu_exports_wide machine dll b [] even = grind arith
@@ -238,11 +230,6 @@ symbols_from : (linked : List Placed) (width address : ℕ) (es : List ExportVie
 unfolding EntriesAt SymbolsAt
 symbols_from linked width address [] entries = tt
 symbols_from linked width address (e ∷ es) entries = (entries.0, symbols_from linked width (address + width) es entries.1)
-
-pub block_entries : (machine : MachineType) (linked : List Placed) (image : List Range) (b : Bases) (dll : NamesOfDll) (es : List ExportView) → BlockLinks machine linked image b dll es →
-    SymbolsAt linked (thunk_width machine) b.addresses (map (λ e. imp_symbol (symbol_in Gnu e)) es)
-block_entries machine linked image b dll es block =
-    symbols_from linked (thunk_width machine) b.addresses es (subst (λ n. EntriesAt linked (thunk_width machine) n es) block.addresses block.strictly.entries)
 
 -- What is known of one DLL's objects among all that is linked, with other objects after them.
 pub record OneLinks (machine : MachineType) (linked : List Placed) (image : List Range) (flavor : Flavor) (dll : NamesOfDll) (es : List ExportView) (b : Bases) (rest : List Object) : Type 0 where
@@ -278,10 +265,7 @@ module _ (machine : MachineType) (dll : NamesOfDll) (linked : List Placed) (imag
       record {
         lookups = table_with image (thunk_width machine) b.lookups ask (map (ask_in Msvc machine) es) one.lookup others.lookups;
         behind = others.behind;
-        table = λ table.
-            let own = one.table table in
-            let later = others.table own.1 in
-            (table_with image (thunk_width machine) b.addresses ask (map (ask_in Msvc machine) es) own.0 later.0, later.1);
+        table = λ table. grind (arith, table_with image (thunk_width machine) b.addresses ask (map (ask_in Msvc machine) es) (one.table table).0 (others.table (one.table table).1).0);
       }
 
   -- each export's address is its own entry
@@ -316,13 +300,13 @@ module _ (machine : MachineType) (dll : NamesOfDll) (linked : List Placed) (imag
       AllByRecursion (IsDefinedAt linked) (undefined_names (placed_from b (behind_descriptor machine dll es rest)))
   unfolding ends_of_askings with_section_symbols object_of null_thunk entries_of name_text
   undefined_behind [] b rest even once others = subst (AllByRecursion (IsDefinedAt linked)) (sym (ap undefined_names (placed-null_thunk machine dll b rest even))) others
-  undefined_behind (e ∷ es) b rest even once others =
-      let ask : Ask = ask_in Msvc machine e in
-      let later : Bases = ends_of_asking machine b ask in
-      let same : undefined_names (placed_from b (behind_descriptor machine dll (e ∷ es) rest)) ≡ descriptor_symbol_by_name dll.text ∷ undefined_names (placed_from later (behind_descriptor machine dll es rest)) =
-      ap undefined_names (placed-asking machine dll b (short_import_symbol e) ask (use_for e) (behind_descriptor machine dll es rest) even)
-      ∙ undefined_by_asking b (short_import_symbol e) ask (use_for e) (placed_from later (behind_descriptor machine dll es rest)) in
-      subst (AllByRecursion (IsDefinedAt linked)) (sym same) (once, undefined_behind es later rest (wide_asking machine b ask even) once others)
+  undefined_behind (e ∷ es) b rest even once others = grind (
+    arith,
+    ends_of_asking machine b (ask_in Msvc machine e),
+    placed-asking machine dll b (short_import_symbol e) (ask_in Msvc machine e) (use_for e) (behind_descriptor machine dll es rest) even,
+    undefined_by_asking b (short_import_symbol e) (ask_in Msvc machine e) (use_for e) (placed_from (ends_of_asking machine b (ask_in Msvc machine e)) (behind_descriptor machine dll es rest)),
+    undefined_behind es (ends_of_asking machine b (ask_in Msvc machine e)) rest (wide_asking machine b (ask_in Msvc machine e) even) once others,
+  )
 
   -- The relocations find their targets in the sections of their own objects.
 
@@ -355,17 +339,12 @@ module _ (machine : MachineType) (dll : NamesOfDll) (linked : List Placed) (imag
   unfolding with_section_symbols object_of descriptor entries_of name_text
   descriptor_finds b = (((next_multiple 2 b.hint_names + 0, refl), ((b.lookups + 0, refl), ((b.addresses + 0, refl), tt))), (tt, (tt, (tt, tt))))
 
-  undefined_by_descriptor : (b : Bases) (others : List Placed) →
-      undefined_names (placed_descriptor machine dll b ∷ others) ≡ null_descriptor_symbol ∷ null_thunk_symbol dll.linked ∷ undefined_names others
-  unfolding with_section_symbols object_of descriptor entries_of name_text
-  undefined_by_descriptor b others = refl
-
   -- one DLL's members for Microsoft's linker
   msvc_links : (es : List ExportView) (b : Bases) (rest : List Object) → AllByRecursion (FitsIn Msvc machine) es → AreWide machine b →
       descriptor_symbol_by_name dll.text ≡ descriptor_symbol dll.linked → IsDefinedAt linked null_descriptor_symbol →
       ((d : SymbolDefinition) → Among d (definitions_in machine Msvc dll b es) → definitions_of d.name linked ≡ d ∷ []) →
       LocatedFrom machine linked image b (objects_of machine Msvc dll es rest) → OneLinks machine linked image Msvc dll es b rest
-  unfolding descriptor_definition
+  unfolding descriptor_definition with_section_symbols object_of descriptor entries_of name_text
   msvc_links es b rest fit even found null only located =
       let later : Bases = ends_of_descriptor dll b in
       let wide : AreWide machine (ends_of_descriptor dll b) = wide_descriptor machine dll b even in
@@ -387,19 +366,13 @@ module _ (machine : MachineType) (dll : NamesOfDll) (linked : List Placed) (imag
         table_located = loaded.table_located;
         entries = imps_at es later behind_only;
         rest_located = record { descriptors = tables.behind.descriptors; lookups = tables.behind.lookups; addresses = addresses.1; hint_names = tables.behind.hint_names; dll_names = tables.behind.dll_names };
-        defined = λ others.
-            subst (AllByRecursion (IsDefinedAt linked))
-            (sym (ap undefined_names (placed-descriptor machine dll b (behind_descriptor machine dll es rest) even)
-            ∙ undefined_by_descriptor b (placed_from later (behind_descriptor machine dll es rest)))) (
-              null,
-              (
-                (thunk.0, behind_only _ thunk.1),
-                undefined_behind es later rest wide (subst (IsDefinedAt linked) (sym found) (b.descriptors, top)) others,
-              ),
-            );
-        targets = λ others.
-            subst (AllByRecursion (AllFind linked)) (sym (placed-descriptor machine dll b (behind_descriptor machine dll es rest) even))
-            (descriptor_finds b, targets_behind es later rest wide others);
+        defined = λ others. grind (
+          arith,
+          placed-descriptor machine dll b (behind_descriptor machine dll es rest) even,
+          refl,
+          undefined_behind es later rest wide (subst (IsDefinedAt linked) (sym found) (b.descriptors, top)) others,
+        );
+        targets = λ others. grind (arith, placed-descriptor machine dll b (behind_descriptor machine dll es rest) even, descriptor_finds b, targets_behind es later rest wide others);
       }
 
   -- one DLL's members for GNU's linker
@@ -413,7 +386,7 @@ module _ (machine : MachineType) (dll : NamesOfDll) (linked : List Placed) (imag
         top = block.strictly.head;
         loads = block.strictly.loads;
         table_located = block.addresses;
-        entries = block_entries machine linked image b dll es block;
+        entries = grind (arith, symbols_from);
         rest_located = rest_located machine dll es b rest linked image starts ends dll_text fit even only located;
         defined = block_defined machine dll es b rest linked image starts ends dll_text fit even only located;
         targets = block_targets machine dll es b rest linked image starts ends dll_text fit even only located;
@@ -477,9 +450,9 @@ definitions-all machine ending b (k ∷ blocks) rest suit even = grind (arith, d
 
 pub names-all : (machine : MachineType) (b : Bases) (blocks : List FlavorBlock) →
     map (λ (d : SymbolDefinition). d.name) (definitions_all machine b blocks) ≡ flat_map (λ (k : FlavorBlock). symbols_of machine k.flavor k.dll k.exports) blocks
-unfolding definitions_all
+unfolding definitions_all descriptor_definition block_definitions head_definition
 names-all machine b [] = refl
-names-all machine b (k ∷ blocks) = grind (arith, map-append, names-in, names-all machine (ends_one machine b k) blocks)
+names-all machine b (k ∷ blocks) = grind (arith, map-append, names-all machine (ends_one machine b k) blocks, names-behind, ends_of_descriptor, names-after)
 
 -- The ends of one block.
 
@@ -526,9 +499,7 @@ module _ (machine : MachineType) (ending : Ending) (linked : List Placed) (image
       let own : List SymbolDefinition = definitions_in machine k.flavor k.dll b k.exports in
       let one = one_links machine k.dll linked image starts ends fit.0.dll ending k.flavor k.exports b (all_objects machine blocks rest) fit.0.exports fit.0.suits even fit.0.found null
       (λ d m. only d (among_front d own (definitions_all machine later blocks) m)) located in
-      let others = each_in blocks later fit.1 (even_in machine ending k.flavor k.dll b k.exports fit.0.suits even)
-      (λ d m. only d (among_back d own (definitions_all machine later blocks) m)) one.rest_located in
-      grind arith
+      grind (arith, each_in blocks later fit.1 (even_in machine ending k.flavor k.dll b k.exports fit.0.suits even) (λ d m. only d (among_back d own (definitions_all machine later blocks) m)) one.rest_located)
 
 -- the thunks of the first few blocks, with the null thunks that end them
 abbrev pub thunks_in : ℕ → List FlavorBlock → ℕ
@@ -542,10 +513,8 @@ pub nth_in : (machine : MachineType) (linked : List Placed) (image : List Range)
     (c : Bases) × ((c.descriptors ≡ b.descriptors + 20 * i) × ((c.addresses ≡ b.addresses + thunk_width machine * thunks_in i blocks)
     × ((behind : List Object) × OneLinks machine linked image k.flavor k.dll k.exports c behind)))
 unfolding BlocksIn
-nth_in machine linked image rest [] b links i k is = cc
-nth_in machine linked image rest (q ∷ blocks) b links zero k is = grind arith
-nth_in machine linked image rest (q ∷ blocks) b links (suc i) k is =
-    grind (arith, nth_in machine linked image rest blocks, descriptors_one machine q.flavor q.dll b q.exports, plus_sum b.descriptors i, addresses_one machine q.flavor q.dll b q.exports, table_sum b.addresses (thunk_width machine) (length q.exports + 1) (thunks_in i blocks))
+nth_in machine linked image rest (q ∷ blocks) b links (suc i) k is = grind (arith, descriptors_one, plus_sum, addresses_one, table_sum, nth_in machine linked image rest blocks)
+nth_in machine linked image rest blocks b links by k is = grind arith
 
 -- what a block imports
 abbrev pub imported_of : MachineType → FlavorBlock → Imported
@@ -557,11 +526,7 @@ pub directory_in : (machine : MachineType) (linked : List Placed) (image : List 
     DirectoryAt image (thunk_width machine) b.descriptors (map (imported_of machine) blocks)
 unfolding BlocksIn DirectoryAt ends_all
 directory_in machine linked image rest [] b links null = null
-directory_in machine linked image rest (k ∷ blocks) b links null = (
-  links.0.loads,
-  subst (λ n. DirectoryAt image (thunk_width machine) n (map (imported_of machine) blocks)) (sym (descriptors_one machine k.flavor k.dll b k.exports))
-      (directory_in machine linked image rest blocks (ends_one machine b k) links.1 null),
-)
+directory_in machine linked image rest (k ∷ blocks) b links null = grind (arith, descriptors_one, directory_in machine linked image rest blocks (ends_one machine b k) links.1 null)
 
 -- the ends after blocks stay even
 pub even_all : (machine : MachineType) (ending : Ending) (b : Bases) (blocks : List FlavorBlock) → AllSuit ending blocks → AreEven ending machine b → AreEven ending machine (ends_all machine b blocks)

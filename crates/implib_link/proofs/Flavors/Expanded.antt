@@ -160,10 +160,6 @@ module _ (machine : MachineType) (dll : NamesOfDll) (linked : List Placed) where
   unfolding descriptor_linked with_section_symbols object_of descriptor entries_of name_text with_address u32_bytes u32_at
   descriptor_is b = rw (same_number machine) refl
 
-  pub length-descriptor : (b : Bases) → length (descriptor_linked b) ≡ 20
-  unfolding u32_bytes
-  length-descriptor b = ap length (descriptor_is b)
-
   -- in ranges that have the objects, but their address tables, and what of these follows
   module _ (image : List Range) (starts : AllByRecursion (λ r. 0 < r.start) image) (ends : AllByRecursion (λ r. range_end r < 2 ^ 31) image) where
     -- the descriptor and the DLL's name, and what follows
@@ -175,23 +171,18 @@ module _ (machine : MachineType) (dll : NamesOfDll) (linked : List Placed) where
       pub table : TableFrom machine linked image b (taken_descriptor machine dll ∷ rest) → TableFrom machine linked image (ends_of_descriptor dll b) rest
 
     pub descriptor_stands : (b : Bases) (rest : List Object) → AreWide machine b → LocatedBeside machine linked image b (taken_descriptor machine dll ∷ rest) → DescriptorStands b rest
-    unfolding with_section_symbols object_of descriptor entries_of name_text descriptor_linked
+    unfolding with_section_symbols object_of descriptor entries_of name_text descriptor_linked u32_bytes
     descriptor_stands b rest even located =
         let later : Bases = ends_of_descriptor dll b in
         let placed_is : placed_from b (taken_descriptor machine dll ∷ rest) ≡ placed_descriptor machine dll b ∷ placed_from later rest = placed-descriptor machine dll b rest even in
-        let descriptors = step image b.descriptors (descriptor_linked b) (contributions machine linked Descriptors (placed_from later rest)) 20 (length-descriptor b)
+        let descriptors = step image b.descriptors (descriptor_linked b) (contributions machine linked Descriptors (placed_from later rest)) 20 (ap length (descriptor_is b))
         (subst (λ ps. BytesAt image b.descriptors (filled b.descriptors (contributions machine linked Descriptors ps))) placed_is located.descriptors) in
         let lookups = step image b.lookups [] (contributions machine linked Lookups (placed_from later rest)) 0 refl
         (subst (λ ps. BytesAt image b.lookups (filled b.lookups (contributions machine linked Lookups ps))) placed_is located.lookups) in
         let names = contribution_located image b.hint_names (record { address = next_multiple 2 b.hint_names; bytes = dll.text ++ 0 ∷ [] }) (contributions machine linked HintNames (placed_from later rest))
         (at_least 2 b.hint_names)
         (subst (λ ps. BytesAt image b.hint_names (filled b.hint_names (contributions machine linked HintNames ps))) placed_is located.hint_names) in
-        record {
-          bytes = subst (BytesAt image b.descriptors) (descriptor_is b) descriptors.0;
-          name = names.0;
-          behind = grind (arith, descriptors, lookups, plus_none);
-          table = λ table. grind arith;
-        }
+        grind (arith, descriptor_is, plus_none)
 
     -- thunks in both tables that ask so, and what follows
     pub record AskingStands (b : Bases) (symbol : List ℕ) (ask : Ask) (use_kind : Use) (rest : List Object) : Type 0 where
@@ -245,15 +236,4 @@ module _ (machine : MachineType) (dll : NamesOfDll) (linked : List Placed) where
 
     pub null_thunk_stands : (b : Bases) (rest : List Object) → AreWide machine b → LocatedBeside machine linked image b (taken_null_thunk machine dll ∷ rest) → NullThunkStands b rest
     unfolding with_section_symbols object_of null_thunk entries_of name_text
-    null_thunk_stands b rest even located =
-        let later : Bases = ends_of_null_thunk machine b in
-        let placed_is : placed_from b (taken_null_thunk machine dll ∷ rest) ≡ placed_null_thunk machine dll b ∷ placed_from later rest = placed-null_thunk machine dll b rest even in
-        let long = length-replicate {A = ℕ} (thunk_width machine) 0 in
-        let lookups = step image b.lookups (zeros (thunk_width machine)) (contributions machine linked Lookups (placed_from later rest)) (thunk_width machine) long
-        (subst (λ ps. BytesAt image b.lookups (filled b.lookups (contributions machine linked Lookups ps))) placed_is located.lookups) in
-        record {
-          lookup = lookups.0;
-          behind = grind arith;
-          table = λ table. step image b.addresses (zeros (thunk_width machine)) (contributions machine linked Addresses (placed_from later rest)) (thunk_width machine) long
-              (subst (λ ps. BytesAt image b.addresses (filled b.addresses (contributions machine linked Addresses ps))) placed_is table);
-        }
+    null_thunk_stands b rest even located = grind (arith, placed-null_thunk machine dll b rest even, length-replicate {A = ℕ} (thunk_width machine) 0, step)

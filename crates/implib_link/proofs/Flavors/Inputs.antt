@@ -1,5 +1,5 @@
 -- The names that the members of both flavours claim: those that they are listed for.
-use Rattle.std.proofs.Common.{◌≡◌, ℕ, Bool, true, false, List, [], ◌∷◌, ◌++◌, map, refl, ap, sym, ◌∙◌, subst, inl, inr, if◌then◌else◌, ◌<◌, ◌^◌, Option, Some, arith}
+use Rattle.std.proofs.Common.{◌≡◌, ℕ, Bool, true, false, List, [], ◌∷◌, ◌++◌, map, refl, ap, sym, ◌∙◌, subst, inl, inr, if◌then◌else◌, Option, Some, arith}
 use Rattle.std.specs.List.{flat_map, AllByRecursion, Contains, cons_option, filter_map}
 use Rattle.std.proofs.lemmas.Grind.{flat_map-append}
 use Rattle.std.proofs.lemmas.List.{append_assoc, append-nil, map_push}
@@ -8,22 +8,22 @@ use Rattle.implib.specs.declared.flavor.Flavor.{Flavor}
 use Rattle.implib.specs.declared.flavor.Flavor.TheVariants.{Gnu, Msvc}
 use Rattle.implib.specs.Definition.{ExportView, DefinitionView}
 use Rattle.implib.specs.Members.Gnu.{export_object, head_object, tail_object}
-use Rattle.implib.specs.Import.{Ask, Name, Ordinal, imp_symbol, public_exports}
-use Rattle.implib.specs.Formats.Layout.{entries_of, name_text, object_of, HasNoNul}
-use Rattle.implib.specs.Members.Msvc.{short_import_symbols, short_import_of}
+use Rattle.implib.specs.Import.{Ask, imp_symbol, public_exports}
+use Rattle.implib.specs.Formats.Layout.{entries_of, name_text, object_of}
+use Rattle.implib.specs.Members.Msvc.{short_import_symbols}
 use Rattle.implib.specs.Members.MsvcObjects.{descriptor, descriptor_symbol, null_descriptor, null_descriptor_symbol, null_thunk, null_thunk_symbol}
 use Rattle.implib.specs.Formats.Object.{Object, object_in}
 use Rattle.implib.proofs.Link.LinkedMembers.{among_contains, among_map, exports_fit, members_among, objects_are, symbols_are, among_reverse}
 use Rattle.implib.proofs.Link.Placement.{export, tail, head}
 use Rattle.implib.proofs.Link.Ranges.{Among, among_back, among_front, all_among, among_first, among_flat, among_later}
-use Rattle.implib_link.specs.Flavors.Expansion.{Code, Constant, Data, import_object, expansion, expanded_as, expanded_in, use_of, with_section_symbols}
-use Rattle.implib_link.specs.Flavors.Program.{Ending, OfLinker, OfMember, claimed_names, HaveSame, FlavorInput, IsFoundByName, IsMadeFor, IsTaken, all_members, exports_chosen, members_linked, null_member, objects_taken, specs_in, symbols_listed, dll_names_in}
+use Rattle.implib_link.specs.Flavors.Expansion.{Code, Constant, Data, import_object, expanded_as, expanded_in, use_of, with_section_symbols}
+use Rattle.implib_link.specs.Flavors.Program.{Ending, claimed_names, HaveSame, FlavorInput, IsFoundByName, IsMadeFor, IsTaken, all_members, exports_chosen, members_linked, null_member, objects_taken, specs_in, symbols_listed, dll_names_in}
 use Rattle.implib_link.proofs.Flavors.Block.{claimed_after, claimed_head, behind_descriptor, objects_of, symbols_of, FitsIn, asking, FlavorBlock, all_objects, rest_of, AllSuit, CanLink}
 use Rattle.implib_link.proofs.Search.Lists.{among_either, contains_among, all_from}
 use Rattle.implib_link.proofs.Flavors.Expanded.{taken_descriptor, taken_null, taken_null_thunk, AskFits}
 use Rattle.implib.specs.LibraryName.{NamesOfDll, linked_dll, names_for, linked_name}
-use Rattle.std.specs.Prelude.{◌==◌, slice_get, suc, take, zero}
-use Rattle.std.specs.Option.{option_and_then, option_map}
+use Rattle.std.specs.Prelude.{◌==◌, slice_get, suc, take}
+use Rattle.std.specs.Option.{option_and_then}
 use Rattle.std.proofs.lemmas.Bool.{cases_Bool, le-leb, ltb-true}
 use Rattle.std.proofs.lemmas.List.Elements.{filter_map-append}
 use Rattle.implib.specs.Ascii.{holds}
@@ -36,7 +36,7 @@ use Rattle.implib.specs.Members.Members.{AreMembersOf, member_specs}
 use Rattle.implib.specs.Members.MsvcMembers.{descriptor_spec, export_specs, header_specs, null_descriptor_spec, null_thunk_spec, short_import_spec}
 use Rattle.implib.specs.Members.ReadBack.{file_of}
 use Rattle.implib.specs.Renaming.{renamed}
-use Rattle.implib.specs.Formats.ShortImport.{import_code, import_const, import_data, without_prefix}
+use Rattle.implib.specs.Formats.ShortImport.{import_code, import_const, import_data}
 use Rattle.implib.proofs.Members.GnuReadings.{member_specs_read}
 use Rattle.implib.proofs.Members.Import.{name_type_is_ordinal, name_type_of_fits, symbol_without_nul}
 use Rattle.implib.proofs.Members.MemberReadings.{ReadsBack, map_after, member_specs_read_back}
@@ -68,15 +68,23 @@ askings_claim : (machine : MachineType) (dll : NamesOfDll) (es : List ExportView
 askings_claim machine dll [] rest = ap (λ names. names ++ flat_map claimed_names rest) (claims_thunk machine dll)
 askings_claim machine dll (e ∷ es) rest = grind (arith, askings_claim machine dll es rest, behind_descriptor, claims_asking, append_assoc)
 
-one_claims : (machine : MachineType) (flavor : Flavor) (dll : NamesOfDll) (es : List ExportView) (rest : List Object) →
-    flat_map claimed_names (objects_of machine flavor dll es rest) ≡ symbols_of machine flavor dll es ++ flat_map claimed_names rest
-one_claims machine flavor dll es rest = grind (arith, behind_descriptor, claims_descriptor, askings_claim, export, tail, claimed_head, claimed_after)
-
 pub all_claim_listed : (machine : MachineType) (ending : Ending) (blocks : List FlavorBlock) →
     flat_map claimed_names (all_objects machine blocks (rest_of ending)) ≡ flat_map (λ (k : FlavorBlock). symbols_of machine k.flavor k.dll k.exports) blocks
-all_claim_listed machine OfLinker [] = refl
-all_claim_listed machine OfMember [] = refl
-all_claim_listed machine ending (k ∷ blocks) = grind (arith, all_claim_listed machine ending blocks, one_claims, all_objects, rest_of, symbols_of)
+all_claim_listed machine ending (k ∷ blocks) = grind (
+  arith,
+  all_claim_listed machine ending blocks,
+  all_objects,
+  rest_of,
+  symbols_of,
+  behind_descriptor,
+  claims_descriptor,
+  askings_claim,
+  export,
+  tail,
+  claimed_head,
+  claimed_after,
+)
+all_claim_listed machine ending blocks = grind arith
 
 -- with the null descriptor put in, its name comes in, too
 moved : (name one : List ℕ) (xs ys : List (List ℕ)) → Among name (xs ++ one ∷ ys) → Among name (one ∷ (xs ++ ys))
@@ -112,31 +120,18 @@ use_is : (is_data constant : Bool) →
     use_of (if is_data then import_data else if constant then import_const else import_code) ≡ Some (if is_data then Data else if constant then Constant else Code)
 use_is is_data constant = grind arith
 
--- the short import of an export is taken for the object that asks so
-pub short_import_taken : (machine : MachineType) (dll : NamesOfDll) (e : ExportView) → expansion machine (short_import_of machine dll.text e) ≡ Some (asking machine dll e)
-short_import_taken machine dll e = simp (le-leb, name_type_of_fits, same_machine, name_type_is_ordinal, use_is)
-
 -- What a short import asks for has no NUL.
 
 if_free : (test : Bool) (one other : List ℕ) → holds 0 one ≡ false → holds 0 other ≡ false → holds 0 (if test then one else other) ≡ false
 if_free test one other first second = grind arith
 
-prefix_free : (text : List ℕ) → holds 0 text ≡ false → holds 0 (without_prefix text) ≡ false
-prefix_free text free = grind arith
-
 cut_free : (n : ℕ) (text : List ℕ) → holds 0 text ≡ false → holds 0 (take n text) ≡ false
-cut_free zero text free = refl
-cut_free (suc n) [] free = refl
 cut_free (suc n) (b ∷ rest) free = grind (arith, cut_free n rest)
-
-ask_fits : (no_name : Bool) (ordinal : ℕ) (text : List ℕ) → ordinal < 2 ^ 16 → HasNoNul text → AskFits (if no_name then Ordinal ordinal else Name text ordinal)
-unfolding AskFits
-ask_fits true ordinal text small free = small
-ask_fits false ordinal text small free = (small, free)
+cut_free n text free = cc
 
 pub export_fits : (machine : MachineType) (e : ExportView) → Sound e → FitsIn Msvc machine e
-unfolding FitsIn
-export_fits machine e good = grind (arith, ask_fits, ltb-true, prefix_free, if_free, cut_free, symbol_without_nul)
+unfolding FitsIn AskFits
+export_fits machine e good = grind (arith, ltb-true, if_free, cut_free, symbol_without_nul)
 
 -- a file that reads as another is taken as that
 taken_by : (machine : MachineType) (bytes : List ℕ) (file : File) → file_in bytes ≡ Some file → expanded_in machine bytes ≡ expanded_as machine file
@@ -194,7 +189,7 @@ module _ (d : DefinitionView) (machine : MachineType) (members : List MemberView
 
   pub short_taken : (e : ExportView) → Among e (public_exports (renamed d)) →
       expanded_in machine (member_of (short_import_spec machine (names_for Msvc d) e)).bytes ≡ Some (asking machine (names_for Msvc d) e)
-  short_taken e m = taken_of (short_import_spec machine (names_for Msvc d) e) (short_at e m) ∙ short_import_taken machine (names_for Msvc d) e
+  short_taken e m = taken_of (short_import_spec machine (names_for Msvc d) e) (short_at e m) ∙ (simp (le-leb, name_type_of_fits, same_machine, name_type_is_ordinal, use_is))
 
   -- what holds of each export that is not private holds of the chosen ones
   chosen_all : (P : ExportView → Type 0) → ((e : ExportView) → Among e (public_exports (renamed d)) → P e) → AllByRecursion P (chosen_exports d chosen)
@@ -233,24 +228,11 @@ flat_listed : (machine : MachineType) (dll : NamesOfDll) (es : List ExportView) 
 flat_listed machine dll [] last = refl
 flat_listed machine dll (e ∷ es) last = grind (arith, flat_listed machine dll es last)
 
-pub msvc_symbols : (d : DefinitionView) (machine : MachineType) (chosen : List ℕ) →
-    symbols_listed (map member_of (specs_in Msvc d machine chosen)) ≡ symbols_of machine Msvc (names_for Msvc d) (chosen_exports d chosen)
-unfolding descriptor_spec null_thunk_spec
-msvc_symbols d machine chosen = grind (arith, flat_listed)
-
 -- The members for GNU's linker: a linker takes each for the object that it is.
 
 -- the object of a file is taken with its section symbols
 object_taken : (machine : MachineType) (bytes : List ℕ) (o p : Object) → file_in bytes ≡ Some (ObjectFile o) → object_in bytes ≡ Some p → expanded_in machine bytes ≡ Some (with_section_symbols p)
 object_taken machine bytes o p is read = grind (arith, taken_by)
-
-head_plain : (machine : MachineType) (dll : NamesOfDll) → with_section_symbols (head machine dll) ≡ head machine dll
-unfolding with_section_symbols head_object
-head_plain machine dll = refl
-
-tail_plain : (machine : MachineType) (dll : NamesOfDll) → with_section_symbols (tail machine dll) ≡ tail machine dll
-unfolding with_section_symbols tail_object
-tail_plain machine dll = refl
 
 export_plain : (machine : MachineType) (dll : NamesOfDll) (e : ExportView) → with_section_symbols (export machine dll e) ≡ export machine dll e
 unfolding with_section_symbols export_object
@@ -274,12 +256,12 @@ module _ (d : DefinitionView) (machine : MachineType) (members : List MemberView
       (numbered_in machine (linked_name d) (public_exports (renamed d)) 0 n e p is (subst (λ k. Among p (numbered_specs_of machine (linked_name d) k e)) (sym (omega arith)) own))))
 
   pub head_taken : expanded_in machine (member_of (head_spec machine (linked_name d))).bytes ≡ Some (head machine (names_for Gnu d))
-  unfolding head_spec
-  head_taken = spec_taken (head_spec machine (linked_name d)) _ _ refl (among_later _ _ _ (among_first _ _)) (head_object_is machine library made) ∙ ap Some (head_plain machine (names_for Gnu d))
+  unfolding head_spec with_section_symbols head_object
+  head_taken = spec_taken (head_spec machine (linked_name d)) _ _ refl (among_later _ _ _ (among_first _ _)) (head_object_is machine library made) ∙ ap Some (refl)
 
   pub tail_taken : expanded_in machine (member_of (tail_spec machine (names_for Gnu d))).bytes ≡ Some (tail machine (names_for Gnu d))
-  unfolding tail_spec
-  tail_taken = spec_taken (tail_spec machine (names_for Gnu d)) _ _ refl (among_first _ _) (tail_object_is machine library made) ∙ ap Some (tail_plain machine (names_for Gnu d))
+  unfolding tail_spec with_section_symbols tail_object
+  tail_taken = spec_taken (tail_spec machine (names_for Gnu d)) _ _ refl (among_first _ _) (tail_object_is machine library made) ∙ ap Some (refl)
 
   pub export_taken : (n : ℕ) (e : ExportView) → slice_get (public_exports (renamed d)) n ≡ Some e → expanded_in machine (member_of (export_spec machine (linked_name d) n e)).bytes ≡ Some (export machine (names_for Gnu d) e)
   unfolding export_spec
@@ -293,15 +275,10 @@ module _ (d : DefinitionView) (machine : MachineType) (members : List MemberView
   abbrev last : MemberSpec
   last = tail_spec machine (names_for Gnu d)
 
-  one_more : (n : ℕ) (o : Option ExportView) (specs : List MemberSpec) (es : List ExportView) → slice_get (public_exports (renamed d)) n ≡ o →
-      map reading (specs ++ last ∷ []) ≡ map Some (map (export machine (names_for Gnu d)) es ++ tail machine (names_for Gnu d) ∷ []) →
-      map reading (cons_option (option_map (export_spec machine (linked_name d) n) o) specs ++ last ∷ []) ≡ map Some (map (export machine (names_for Gnu d)) (cons_option o es) ++ tail machine (names_for Gnu d) ∷ [])
-  one_more n o specs es is later = grind (arith, export_taken, export)
-
   behind_taken : (chosen : List ℕ) → map reading (filter_map (numbered_spec machine (linked_name d) (public_exports (renamed d))) chosen ++ last ∷ [])
       ≡ map Some (map (export machine (names_for Gnu d)) (chosen_exports d chosen) ++ tail machine (names_for Gnu d) ∷ [])
   behind_taken [] = ap (λ o. o ∷ []) tail_taken
-  behind_taken (n ∷ chosen) = grind (arith, behind_taken chosen, one_more)
+  behind_taken (n ∷ chosen) = grind (arith, behind_taken chosen, export_taken, export)
 
   pub gnu_read : (chosen : List ℕ) →
       map (λ (m : MemberView). expanded_in machine m.bytes) (map member_of (specs_in Gnu d machine chosen)) ≡ map Some (objects_of machine Gnu (names_for Gnu d) (chosen_exports d chosen) [])
@@ -319,11 +296,6 @@ from_members : (d : DefinitionView) (machine : MachineType) (flavor : Flavor) (m
 from_members d machine Msvc members chosen made = msvc_from d machine members chosen made
 from_members d machine Gnu members chosen made = members_among d machine members chosen made
 
-null_among : (d : DefinitionView) (machine : MachineType) (flavor : Flavor) (members : List MemberView) (chosen : List ℕ) → AreMembersOf d machine flavor members →
-    flavor ≡ Msvc → Contains members (null_member machine (linked_dll d))
-null_among d machine Msvc members chosen made is = null_from d machine members chosen made
-null_among d machine Gnu members chosen made is = cc
-
 fit_in : (d : DefinitionView) (machine : MachineType) (flavor : Flavor) (members : List MemberView) (chosen : List ℕ) → AreMembersOf d machine flavor members →
     AllByRecursion (FitsIn flavor machine) (chosen_exports d chosen)
 unfolding FitsIn
@@ -332,7 +304,8 @@ fit_in d machine Gnu members chosen made = exports_fit d machine members chosen 
 
 symbols_are_in : (d : DefinitionView) (machine : MachineType) (flavor : Flavor) (members : List MemberView) (chosen : List ℕ) → AreMembersOf d machine flavor members →
     symbols_listed (map member_of (specs_in flavor d machine chosen)) ≡ symbols_of machine flavor (names_for flavor d) (chosen_exports d chosen)
-symbols_are_in d machine Msvc members chosen made = msvc_symbols d machine chosen
+unfolding descriptor_spec null_thunk_spec
+symbols_are_in d machine Msvc members chosen made = grind (arith, flat_listed)
 symbols_are_in d machine Gnu members chosen made = symbols_are d machine members chosen made
 
 -- those that are there
@@ -403,7 +376,14 @@ inputs_link machine ending (p ∷ ps) are found suit = grind (arith, inputs_link
 pub inputs_taken : (machine : MachineType) (ps : List FlavorInput) → AllByRecursion (IsMadeFor machine) ps → AllByRecursion (IsTaken machine) ps
 inputs_taken machine [] are = tt
 inputs_taken machine (p ∷ ps) are =
-    grind (arith, inputs_taken machine ps are.1, from_members p.input.definition machine p.flavor p.input.members p.input.chosen are.0, objects_read p.input.definition machine p.flavor p.input.members p.input.chosen are.0, taken_are machine p are.0, null_among p.input.definition machine p.flavor p.input.members p.input.chosen are.0)
+    grind (
+      arith,
+      inputs_taken machine ps are.1,
+      from_members p.input.definition machine p.flavor p.input.members p.input.chosen are.0,
+      objects_read p.input.definition machine p.flavor p.input.members p.input.chosen are.0,
+      taken_are machine p are.0,
+      null_from,
+    )
 
 pub null_object : (machine : MachineType) (p : FlavorInput) → IsMadeFor machine p → p.flavor ≡ Msvc → expanded_in machine (null_member machine (linked_dll p.input.definition)).bytes ≡ Some (taken_null machine)
 null_object machine p made is = grind (arith, null_taken)

@@ -29,7 +29,7 @@ use Rattle.implib.specs.Link.Placement.{Addresses, At, Placed}
 use Rattle.implib.specs.Link.Resolution.{SymbolDefinition, defined_by_entry, definitions_of}
 use Rattle.implib.proofs.Link.Definitions.{only_definition}
 use Rattle.implib.proofs.Link.LinkedMembers.{among_contains, among_map, all_at}
-use Rattle.implib_link.proofs.Flavors.Block.{table_sum, plus_sum as next_row, gets_address}
+use Rattle.implib_link.proofs.Flavors.Block.{table_sum, gets_address}
 use Rattle.implib_link.proofs.Gnu.Others.{definitions_parts}
 use Rattle.std.proofs.lemmas.Option.{slice_get-map}
 use Rattle.std.specs.Option.{option_map}
@@ -49,13 +49,10 @@ unfolding put_in
 put_all P r [] own all = (own, tt)
 put_all P r (s ∷ group) own all = grind (arith, put_all P r group own all.1)
 
-put_key : (r : ShortImport) (group : List ShortImport) → in_small r.dll ≡ key group → key (put_in r group) ≡ in_small r.dll
-unfolding put_in
-put_key r group same = grind arith
-
 put_one : (r : ShortImport) (group : List ShortImport) → in_small r.dll ≡ key group → OneDll group → OneDll (put_in r group)
+unfolding put_in
 put_one r group same one =
-    subst (λ k. AllByRecursion (λ (s : ShortImport). in_small s.dll ≡ k) (put_in r group)) (sym (put_key r group same))
+    subst (λ k. AllByRecursion (λ (s : ShortImport). in_small s.dll ≡ k) (put_in r group)) (sym (grind arith))
     (put_all (λ (s : ShortImport). in_small s.dll ≡ in_small r.dll) r group refl (subst (λ k. AllByRecursion (λ (s : ShortImport). in_small s.dll ≡ k) group) (sym same) one))
 
 put_holds : (x r : ShortImport) (group : List ShortImport) → Among x (r ∷ group) → Among x (put_in r group)
@@ -168,8 +165,7 @@ StandAt image width descriptor table (i ∷ imports) =
 pub directory_stands : (image : List Range) (width : ℕ) (imports : List Imported) (descriptor table : ℕ) → StandAt image width descriptor table imports → DirectoryAt image width descriptor imports
 unfolding StandAt DirectoryAt
 directory_stands image width [] descriptor table all = all
-directory_stands image width (i ∷ imports) descriptor table all =
-    (all.0.loads, directory_stands image width imports (descriptor + 20) (table + width * (length i.asks + 1)) all.1)
+directory_stands image width (i ∷ imports) descriptor table all = grind (arith, directory_stands image width imports (descriptor + 20) (table + width * (length i.asks + 1)) all.1)
 
 -- Lengths.
 
@@ -178,14 +174,10 @@ unfolding thunk_built
 length_thunk machine place (Ordinal n) = length-thunk_of machine n true
 length_thunk machine place (Name text hint) = length-address machine place
 
--- a thunk more, for each width
-one_more : (machine : MachineType) (n : ℕ) → thunk_width machine + thunk_width machine * (n + 1) ≡ thunk_width machine * (suc n + 1)
-one_more machine n = by_width (λ w. w + w * (n + 1) ≡ w * (suc n + 1)) (omega arith) (omega arith) machine
-
 length_thunks : (machine : MachineType) (place : ℕ) (asks : List Ask) → length (thunks_built machine place asks) ≡ thunk_width machine * (length asks + 1)
 unfolding thunks_built
 length_thunks machine place [] = length-replicate {A = ℕ} (thunk_width machine) 0 ∙ (by_width (λ w. w ≡ w * 1) refl refl machine)
-length_thunks machine place (ask ∷ asks) = grind (arith, length-append, length_thunk, one_more, length_thunks machine (place + length (hint_built ask)) asks)
+length_thunks machine place (ask ∷ asks) = grind (arith, length-append, length_thunk, length_thunks machine (place + length (hint_built ask)) asks)
 
 length_tables : (machine : MachineType) (place : ℕ) (imports : List Imported) → length (tables_built machine place imports) ≡ thunk_width machine * thunks_until (length imports) imports
 unfolding tables_built
@@ -272,15 +264,13 @@ module _ (machine : MachineType) (image : List Range) (starts : AllByRecursion (
 
   pub pieces_stand : (descriptors lookups addresses hints names : ℕ) (imports : List Imported) → AllByRecursion IsImportable imports →
       ArePiecesAt machine image descriptors lookups addresses hints names imports → StandAt image (thunk_width machine) descriptors addresses imports
-  pieces_stand descriptors lookups addresses hints names imports importable pieces =
-      all_stand imports descriptors lookups names addresses hints importable pieces.directory pieces.lookup_tables pieces.address_tables pieces.hint_names pieces.dll_names
+  pieces_stand descriptors lookups addresses hints names imports importable pieces = grind (arith, all_stand)
 
 pub pieces_directory : (machine : MachineType) (image : List Range) (descriptors lookups addresses hints names : ℕ) (imports : List Imported) →
     AllByRecursion (λ r. 0 < r.start) image → AllByRecursion (λ r. range_end r < 2 ^ 31) image → AllByRecursion IsImportable imports →
     ArePiecesAt machine image descriptors lookups addresses hints names imports → DirectoryAt image (thunk_width machine) descriptors imports
 pieces_directory machine image descriptors lookups addresses hints names imports starts ends importable pieces =
-    directory_stands image (thunk_width machine) imports descriptors addresses
-    (pieces_stand machine image starts ends descriptors lookups addresses hints names imports importable pieces)
+    grind (arith, directory_stands image (thunk_width machine) imports descriptors addresses (pieces_stand machine image starts ends descriptors lookups addresses hints names imports importable pieces))
 
 -- One piece is five.
 
@@ -351,10 +341,7 @@ nth_stands image width (q ∷ imports) descriptor table zero p all is =
     subst (λ (x : Imported). LoadsFrom image width (descriptor + 20 * 0) (table + width * 0) x.dll x.asks) (cc)
     (subst (λ n. LoadsFrom image width n (table + width * 0) q.dll q.asks) (omega arith)
     (subst (λ n. LoadsFrom image width descriptor n q.dll q.asks) (nothing_before table width) all.0))
-nth_stands image width (q ∷ imports) descriptor table (suc i) p all is =
-    subst (λ n. LoadsFrom image width n (table + width * (length q.asks + 1 + thunks_until i imports)) p.dll p.asks) (next_row descriptor i)
-    (subst (λ n. LoadsFrom image width (descriptor + 20 + 20 * i) n p.dll p.asks) (table_sum table width (length q.asks + 1) (thunks_until i imports))
-    (nth_stands image width imports (descriptor + 20) (table + width * (length q.asks + 1)) i p all.1 is))
+nth_stands image width (q ∷ imports) descriptor table (suc i) p all is = grind (arith, table_sum, nth_stands image width imports (descriptor + 20) (table + width * (length q.asks + 1)) i p all.1 is)
 
 -- What lld defines.
 
@@ -392,9 +379,8 @@ all_names_of width address (group ∷ groups) = grind (arith, map-append, group_
 group_defines : (width address : ℕ) (group : List ShortImport) (j : ℕ) (r : ShortImport) → slice_get group j ≡ Some r →
     Among (record { name = imp_symbol r.symbol; address = Some (address + width * j) }) (group_definitions width address group)
 unfolding group_definitions Among
-group_defines width address [] j r is = cc
-group_defines width address (s ∷ group) zero r is = grind arith
 group_defines width address (s ∷ group) (suc j) r is = grind (arith, group_defines width (address + width) group j r is)
+group_defines width address group j r is = grind arith
 
 pub all_define : (width address : ℕ) (groups : List (List ShortImport)) (i j : ℕ) (group : List ShortImport) (r : ShortImport) → slice_get groups i ≡ Some group → slice_get group j ≡ Some r →
     Among (record { name = imp_symbol r.symbol; address = Some (address + width * thunks_until i (map imported_by groups) + width * j) }) (all_definitions width address groups)
@@ -430,9 +416,6 @@ module _ (machine : MachineType) (descriptors addresses : ℕ) (taken : List Sho
   pub only : AllByRecursion (λ group. AllByRecursion (λ r. Contains taken r × (r.dll ≡ dll_of_group group)) group) (grouped taken)
   only = all_of_one taken program.agree (grouped taken) held (grouped_one taken)
 
-  own_definitions : (name : List ℕ) → definitions_of name (placed_by_lld machine addresses taken ∷ []) ≡ filter (λ (d : SymbolDefinition). bytes_eq name d.name) own
-  own_definitions name = simp (append-nil, groups_define, plus_none)
-
   pub defined_once : (r : ShortImport) → Among r taken → (d : SymbolDefinition) → d.name ≡ imp_symbol r.symbol → Among d own → definitions_of (imp_symbol r.symbol) linked ≡ d ∷ []
   defined_once r m d named among =
       let name : List ℕ = imp_symbol r.symbol in
@@ -444,7 +427,7 @@ module _ (machine : MachineType) (descriptors addresses : ℕ) (taken : List Sho
       ∙ definitions_parts name (lld ∷ []) program.behind
       ∙ ap (λ ds. definitions_of name (lld ∷ []) ++ ds) (all_among (λ n. definitions_of n program.behind ≡ []) name (imp_symbols_of taken) listed program.none_behind)
       ∙ append-nil (definitions_of name (lld ∷ []))
-      ∙ own_definitions name
+      ∙ (simp (append-nil, groups_define, plus_none))
       ∙ subst (λ n. filter (λ (other : SymbolDefinition). bytes_eq n other.name) own ≡ d ∷ []) named (only_definition d own among (grind (arith, all_names_of, distinct_from, grouped_times, few_from)))
 
   is_imported : (r : ShortImport) → Contains taken r → IsImportedBy machine descriptors addresses taken image linked r
@@ -456,8 +439,7 @@ module _ (machine : MachineType) (descriptors addresses : ℕ) (taken : List Sho
       (all_at (λ x. Contains taken x × (x.dll ≡ dll_of_group at.group)) at.group at.j r
       (all_at (λ group. AllByRecursion (λ x. Contains taken x × (x.dll ≡ dll_of_group group)) group) (grouped taken) at.i at.group only at.its_group) at.is).1 in
       let from : LoadsFrom image (thunk_width machine) (descriptors + 20 * at.i) table r.dll (map ask_of_short_import at.group) =
-      subst (λ dll. LoadsFrom image (thunk_width machine) (descriptors + 20 * at.i) table dll (map ask_of_short_import at.group)) (sym same)
-      (nth_stands image (thunk_width machine) (imports_of_lld taken) descriptors addresses at.i (imported_by at.group) stand (get_map imported_by (grouped taken) at.i at.group at.its_group)) in
+      grind (arith, nth_stands image (thunk_width machine) (imports_of_lld taken) descriptors addresses at.i (imported_by at.group) stand (get_map imported_by (grouped taken) at.i at.group at.its_group)) in
       let entry : definitions_of (imp_symbol r.symbol) linked ≡ record { name = imp_symbol r.symbol; address = Some (from.loads.plain.addresses + thunk_width machine * at.j) } ∷ [] = cc (defined_once r m (record { name = imp_symbol r.symbol; address = Some (table + thunk_width machine * at.j) }) refl (all_define (thunk_width machine) addresses (grouped taken) at.i at.j at.group r at.its_group at.is)) in
       record {
         i = at.i;
@@ -472,11 +454,7 @@ module _ (machine : MachineType) (descriptors addresses : ℕ) (taken : List Sho
       }
 
   links : LldLinks machine descriptors addresses taken image linked
-  links = record {
-    directory = directory_stands image (thunk_width machine) (imports_of_lld taken) descriptors addresses stand;
-    imported = is_imported;
-    only = only;
-  }
+  links = grind (arith, directory_stands image (thunk_width machine) (imports_of_lld taken) descriptors addresses stand, is_imported, only)
 
 pub lld_links : (machine : MachineType) (descriptors addresses : ℕ) (taken : List ShortImport) (image : List Range) (linked : List Placed) →
     IsLldProgram machine descriptors addresses taken image linked → LldLinks machine descriptors addresses taken image linked

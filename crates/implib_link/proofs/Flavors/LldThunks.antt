@@ -43,15 +43,7 @@ thunk_defines machine d r thunk = grind (arith, among_contains, among_first)
 module _ (image_base : ℕ) (linked : List Placed) (codes : List LinkedCode) (memory : List Range) (r : ShortImport) (bytes : List ℕ) (d : LinkedCode) (held : Contains codes d) where
   x86_thunk : (machine : MachineType) → length (thunk_code machine) ≡ 6 → (x : InstructionArrives machine image_base linked memory (d.position + 0) (0xFF ∷ 0x25 ∷ []) [] (imp_symbol r.symbol) bytes) →
       jump_reads machine (image_base + d.position) (0xFF ∷ 0x25 ∷ (x.field ++ [])) ≡ Some (image_base + x.entry) → ThunkArrives machine image_base memory d.position bytes
-  x86_thunk machine size x reads =
-      record {
-        code = 0xFF ∷ 0x25 ∷ (x.field ++ []);
-        there = subst (λ a. BytesAt memory a (0xFF ∷ 0x25 ∷ (x.field ++ []))) (omega arith) x.there;
-        whole = (omega (arith, length-append x.field [])) ∙ sym size;
-        entry = x.entry;
-        reads = reads;
-        located = x.located;
-      }
+  x86_thunk machine size x reads = grind (arith, length-append)
 
   x86_arrives : (machine : MachineType) (type : ℕ) → length (thunk_code machine) ≡ 6 → IsThunk machine d r → d.code ≡ thunk_section machine →
       MeetsAlone machine (thunk_relocations machine 1) 0 6 (record { offset = 2; symbol = 1; kind = type }) → take 6 (thunk_code machine) ≡ 0xFF ∷ 0x25 ∷ 0 ∷ 0 ∷ 0 ∷ 0 ∷ [] →

@@ -4,13 +4,13 @@ use Rattle.std.specs.Prelude.{bytes_eq}
 use Rattle.std.specs.List.{AllByRecursion, filter, flat_map}
 use Rattle.std.proofs.lemmas.Grind.{flat_map-append}
 use Rattle.implib.specs.declared.machine.MachineType.{MachineType}
-use Rattle.implib.specs.Link.Image.{contributions, contributions_in, contributions_of, filled}
+use Rattle.implib.specs.Link.Image.{contributions, contributions_in, filled}
 use Rattle.implib.specs.Members.ImportTables.{zeros}
 use Rattle.implib.specs.Formats.Layout.{entries_of, name_text, object_of}
 use Rattle.implib.specs.Link.Linked.{AllFind, undefined_names}
 use Rattle.implib.specs.Members.MsvcObjects.{null_descriptor, null_descriptor_symbol}
 use Rattle.implib.specs.Formats.Object.{Object, ObjectSection}
-use Rattle.implib.specs.Link.Placement.{Addresses, At, Bases, Descriptors, DirectoryEnds, DllNames, Group, HintNames, Lookups, Placed, end_after, ends_after, group_named, next_multiple, placed_from, section_addresses_of, same_group, section_address_of}
+use Rattle.implib.specs.Link.Placement.{At, Bases, Descriptors, DirectoryEnds, Group, Placed, end_after, ends_after, group_named, next_multiple, placed_from, section_addresses_of, same_group, section_address_of}
 use Rattle.implib.specs.Link.Resolution.{SymbolDefinition, defined_by, definitions, definitions_of}
 use Rattle.implib.proofs.Link.Definitions.{none_of, same_text}
 use Rattle.implib.proofs.Link.Placement.{aligned}
@@ -118,27 +118,20 @@ module _ (machine : MachineType) (b : Bases) (xs ys : List Object) (none : AllBy
 
   with_null : placed_from b (xs ++ taken_null machine ∷ ys) ≡ front ++ own ∷ back
   unfolding with_section_symbols object_of null_descriptor entries_of name_text ends_behind
-  with_null =
-      let place : ℕ = next_multiple 4 last.directory_ends in
-      let same : next_multiple 4 last.directory_ends ≡ b.directory_ends = grind (arith, ends_behind_kept b xs (all_parts EndsNothing xs ys none).0, all_parts EndsNothing xs ys none, aligned) in
-      placed_parts b xs (taken_null machine ∷ ys)
-      ∙ ap (λ ps. front ++ record { object = taken_null machine; section_addresses = At DirectoryEnds place ∷ [] } ∷ ps) (placed_same (place + 20) last ys (all_parts EndsNothing xs ys none).1)
-      ∙ ap (λ n. front ++ record { object = taken_null machine; section_addresses = At DirectoryEnds n ∷ [] } ∷ back) same
-
-  contributions_same : (linked : List Placed) (group : Group) → contributions_of machine linked group own ≡ [] →
-      contributions machine linked group (placed_from b (xs ++ taken_null machine ∷ ys)) ≡ contributions machine linked group (placed_from b (xs ++ ys))
-  contributions_same linked group empty = grind (arith, with_null, flat_none, without)
+  with_null = grind (
+    arith,
+    ends_behind_kept b xs (all_parts EndsNothing xs ys none).0,
+    all_parts EndsNothing xs ys none,
+    aligned,
+    placed_parts b xs (taken_null machine ∷ ys),
+    taken_null machine,
+    placed_same ((next_multiple 4 last.directory_ends) + 20) last ys (all_parts EndsNothing xs ys none).1,
+  )
 
   -- a group that the null descriptor is not in
   pub group_same : (linked : List Placed) (group : Group) → same_group group DirectoryEnds ≡ false →
       contributions machine linked group (placed_from b (xs ++ taken_null machine ∷ ys)) ≡ contributions machine linked group (placed_from b (xs ++ ys))
-  unfolding with_section_symbols object_of null_descriptor entries_of name_text
-  group_same linked Descriptors is = contributions_same linked Descriptors refl
-  group_same linked DirectoryEnds is = cc
-  group_same linked Lookups is = contributions_same linked Lookups refl
-  group_same linked Addresses is = contributions_same linked Addresses refl
-  group_same linked HintNames is = contributions_same linked HintNames refl
-  group_same linked DllNames is = contributions_same linked DllNames refl
+  group_same linked group is = grind (arith, with_null, flat_none, without)
 
   -- the null descriptor alone is in `.idata$3`
   ends_are : (linked : List Placed) → contributions machine linked DirectoryEnds (placed_from b (xs ++ taken_null machine ∷ ys)) ≡ record { address = b.directory_ends; bytes = zeros 20 } ∷ []
@@ -174,9 +167,7 @@ module _ (machine : MachineType) (b : Bases) (xs ys : List Object) (none : AllBy
   -- and has no relocations
   pub finds_same : (linked : List Placed) → AllByRecursion (AllFind linked) (placed_from b (xs ++ ys)) → AllByRecursion (AllFind linked) (placed_from b (xs ++ taken_null machine ∷ ys))
   unfolding with_section_symbols object_of null_descriptor entries_of name_text
-  finds_same linked all =
-      subst (AllByRecursion (AllFind linked)) (sym with_null)
-      (all_insert (AllFind linked) front back own (tt, tt) (subst (AllByRecursion (AllFind linked)) without all))
+  finds_same linked all = grind (arith, with_null, all_insert (AllFind linked) front back own (tt, tt) (subst (AllByRecursion (AllFind linked)) without all))
 
   -- what is placed without it is placed with it, too
   pub among_same : (q : Placed) → Among q (placed_from b (xs ++ ys)) → Among q (placed_from b (xs ++ taken_null machine ∷ ys))

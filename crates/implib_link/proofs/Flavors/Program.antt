@@ -1,8 +1,8 @@
 -- The members and the null descriptor are a program by themselves.
 use Rattle.std.proofs.lemmas.Grind.{common_steps}
-use Rattle.std.proofs.Common.{rules, ◌≡◌, true, List, [], ◌∷◌, ◌++◌, map, refl, ap, sym, ◌∙◌, subst, ℕ, Option, Some, zero, suc, ◌+◌, length, ◌*◌, ◌%◌, false, arith, inl, inr, ◌^◌, ◌<◌, ◌≤◌}
+use Rattle.std.proofs.Common.{rules, ◌≡◌, true, List, [], ◌∷◌, ◌++◌, map, refl, ap, sym, ◌∙◌, subst, ℕ, Option, Some, suc, ◌+◌, length, ◌*◌, ◌%◌, false, arith, inl, inr, ◌^◌, ◌<◌, ◌≤◌}
 use Rattle.std.specs.Prelude.{not, bytes_eq, option_map, slice_get}
-use Rattle.std.specs.List.{AllByRecursion, filter, IsDistinct, Contains, flat_map}
+use Rattle.std.specs.List.{AllByRecursion, filter, IsDistinct, flat_map}
 use Rattle.implib.specs.declared.machine.MachineType.{MachineType}
 use Rattle.implib.specs.Definition.{ExportView}
 use Rattle.implib.specs.Members.Gnu.{export_object, head_object, tail_object}
@@ -11,67 +11,55 @@ use Rattle.implib.specs.Formats.Object.{Object, object_in}
 use Rattle.implib.proofs.Link.LinkedBlocks.{Block, blocks_objects, linked_objects, each_located, ends, even as even_bases, group_located, starts}
 use Rattle.implib.proofs.Link.LinkedInputs.{block_of, gnu_inputs_objects}
 use Rattle.implib.proofs.Link.Placement.{export, head, tail, AreAligned, aligned}
-use Rattle.implib_link.specs.Flavors.Program.{has_tables, null_descriptor, AreEndedByLinker, AreProgramObjects, IsFoundByName, IsMadeFor, OfLinker, all_members, dll_names_in, gnu_input, symbols_listed, thunks_of, ClaimsNone, linked_symbols, thunks_before, AreClaimed, AreEnded, AreEndedByMember, Ending, FlavorInput, InputImports, OfMember, WhereMember, own_names, SymbolsAt, SymbolsGet, imp_symbols, ask_in, exports_chosen, imported_in, null_member, objects_taken, symbol_in, ProgramLinks, IsProgramOf, claimed_names, names_claimed_in, with_tables, HaveSame, group_end, sections_end, packed, packed_descriptors, packed_end}
-use Rattle.implib_link.proofs.Flavors.Block.{objects_behind, plus_sum, AreEven, NullDefined, OneLinks, behind_descriptor, objects_of, use_for, AllSuit, EachIn, even_all, rest_of, FlavorBlock, all_objects, definitions-all, definitions_all, descriptors_all, directory_in, each_in, ends_all, imported_of, names-all, nth_in, thunks_in, claimed_placed, all_claim, gets_address, once_of}
+use Rattle.implib_link.specs.Flavors.Program.{has_tables, null_descriptor, AreEndedByLinker, AreProgramObjects, IsFoundByName, IsMadeFor, OfLinker, all_members, dll_names_in, gnu_input, symbols_listed, thunks_of, ClaimsNone, linked_symbols, thunks_before, AreClaimed, AreEnded, AreEndedByMember, Ending, FlavorInput, InputImports, OfMember, WhereMember, own_names, SymbolsAt, SymbolsGet, imp_symbols, exports_chosen, imported_in, null_member, objects_taken, symbol_in, ProgramLinks, IsProgramOf, claimed_names, names_claimed_in, with_tables, HaveSame, group_end, sections_end, packed, packed_descriptors, packed_end}
+use Rattle.implib_link.proofs.Flavors.Block.{objects_behind, plus_sum, AreEven, NullDefined, OneLinks, behind_descriptor, objects_of, AllSuit, EachIn, even_all, rest_of, FlavorBlock, all_objects, definitions-all, definitions_all, descriptors_all, directory_in, each_in, ends_all, imported_of, names-all, nth_in, thunks_in, claimed_placed, all_claim, gets_address, once_of}
 use Rattle.implib.specs.LibraryName.{NamesOfDll, names_for, linked_dll}
 use Rattle.std.proofs.lemmas.List.{map-append, append-nil, length-map}
 use Rattle.std.proofs.lemmas.List.Elements.{filter_map-append}
 use Rattle.implib.specs.Members.MemberSpec.{MemberView}
 use Rattle.implib.proofs.Link.Linked.{all_append, LocatedFrom}
 use Rattle.implib.proofs.Link.LinkedMembers.{members_read, objects_are, among_map}
-use Rattle.implib_link.specs.FullNames.{full_name, object_by_full_names, sections_by_full_names, strings_of}
-use Rattle.implib.specs.declared.flavor.Flavor.TheVariants.{Gnu, Msvc}
+use Rattle.implib_link.specs.FullNames.{full_name, object_by_full_names, sections_by_full_names}
+use Rattle.implib.specs.declared.flavor.Flavor.TheVariants.{Gnu}
 use Rattle.std.proofs.lemmas.Option.{slice_get-map}
 use Rattle.implib.specs.declared.flavor.Flavor.{Flavor}
 use Rattle.implib.specs.Link.Image.{Range, contributions, filled, image_of, IsAdmissible}
-use Rattle.implib.specs.Import.{Ask, Name, Ordinal, imp_symbol}
+use Rattle.implib.specs.Import.{imp_symbol}
 use Rattle.implib.specs.Members.ImportTables.{thunk_width, zeros}
 use Rattle.implib.specs.Formats.Layout.{entries_of, name_text, object_of}
 use Rattle.implib.specs.Link.Linked.{AllFind, IsDefinedAt, undefined_names}
 use Rattle.implib.specs.Link.Load.{BytesAt}
-use Rattle.implib.specs.Members.Msvc.{short_import_symbol}
 use Rattle.implib.specs.Members.MsvcObjects.{descriptor, null_descriptor_symbol, null_thunk}
 use Rattle.implib.specs.Link.Placement.{Addresses, Bases, Descriptors, DirectoryEnds, DllNames, Group, HintNames, Lookups, Placed, base_of, next_multiple, placed_from, same_group}
 use Rattle.implib.specs.Link.Resolution.{SymbolDefinition, definitions, definitions_of}
 use Rattle.implib.proofs.Link.Definitions.{not_same_turned, only_definition}
 use Rattle.implib.proofs.Link.Ranges.{Among, all_among, among_first, among_later}
 use Rattle.implib_link.specs.Directory.{DirectoryAt}
-use Rattle.implib_link.specs.Flavors.Expansion.{import_object, expanded_in, Use, with_section_symbols}
+use Rattle.implib_link.specs.Flavors.Expansion.{import_object, expanded_in, with_section_symbols}
 use Rattle.implib_link.proofs.Flavors.Inputs.{all_claim_listed, claimed_with_null, block_in, inputs_link, inputs_objects, inputs_plainly, inputs_symbols, inputs_taken, null_object, objects_with_null}
 use Rattle.implib_link.proofs.Flavors.NullDescriptor.{EndsNothing, all_insert, among_same, descriptors_end_same, finds_same, null_filled, null_once, others_same, undefined_same, group_same}
 use Rattle.implib_link.proofs.Gnu.Others.{contributions_kept, definitions_kept, placed_kept}
 use Rattle.implib_link.proofs.Gnu.Packed.{end_kept, admissible, packed_eights, IsSized, exports_sized, head_sized, tail_sized}
-use Rattle.implib_link.proofs.Search.Lists.{contains_among}
-use Rattle.implib_link.proofs.Flavors.Expanded.{taken_null, taken_descriptor}
+use Rattle.implib_link.proofs.Flavors.Expanded.{taken_null}
 use Rattle.implib_link.proofs.Gnu.Loaded.{times_none, by_width}
 
 pub head_has : (machine : MachineType) (dll : NamesOfDll) → has_tables (head machine dll) ≡ true
 unfolding has_tables head_object
 head_has machine dll = refl
 
-pub tail_has : (machine : MachineType) (dll : NamesOfDll) → has_tables (tail machine dll) ≡ true
-unfolding has_tables tail_object
-tail_has machine dll = refl
-
-pub export_has : (machine : MachineType) (dll : NamesOfDll) (e : ExportView) → has_tables (export machine dll e) ≡ true
-unfolding has_tables export_object
-export_has machine dll e = refl
-
-null_has : has_tables null_descriptor ≡ true
-unfolding has_tables
-null_has = refl
-
 -- each object of a list has tables
 abbrev AllHave : List Object → Type 0
 AllHave objects = AllByRecursion (λ o. has_tables o ≡ true) objects
 
 exports_have : (machine : MachineType) (dll : NamesOfDll) (es : List ExportView) (rest : List Object) → AllHave rest → AllHave (map (export machine dll) es ++ rest)
+unfolding has_tables export_object
 exports_have machine dll [] rest all = all
-exports_have machine dll (e ∷ es) rest all = (export_has machine dll e, exports_have machine dll es rest all)
+exports_have machine dll (e ∷ es) rest all = (refl, exports_have machine dll es rest all)
 
 blocks_have : (machine : MachineType) (blocks : List Block) (rest : List Object) → AllHave rest → AllHave (blocks_objects machine blocks rest)
+unfolding has_tables tail_object
 blocks_have machine [] rest all = all
-blocks_have machine (k ∷ blocks) rest all = grind (arith, blocks_have machine blocks rest all, head_has, exports_have, tail_has)
+blocks_have machine (k ∷ blocks) rest all = grind (arith, blocks_have machine blocks rest all, head_has, exports_have)
 
 pub all_kept : (objects : List Object) → AllHave objects → filter has_tables objects ≡ objects
 all_kept [] all = refl
@@ -91,10 +79,6 @@ head_whole : (machine : MachineType) (dll : NamesOfDll) → HasWholeNames (head 
 unfolding head_object sections_by_full_names full_name
 head_whole machine dll strings = refl
 
-tail_whole : (machine : MachineType) (dll : NamesOfDll) → HasWholeNames (tail machine dll)
-unfolding tail_object sections_by_full_names full_name
-tail_whole machine dll strings = refl
-
 export_whole : (machine : MachineType) (dll : NamesOfDll) (e : ExportView) → HasWholeNames (export machine dll e)
 unfolding export_object sections_by_full_names full_name
 export_whole machine dll e strings = refl
@@ -104,17 +88,14 @@ exports_whole machine dll [] = tt
 exports_whole machine dll (e ∷ es) = (export_whole machine dll e, exports_whole machine dll es)
 
 linked_whole : (machine : MachineType) (dll : NamesOfDll) (es : List ExportView) → AllByRecursion HasWholeNames (linked_objects machine dll es)
-linked_whole machine dll es = grind (arith, head_whole, all_append, export, tail, exports_whole, tail_whole)
-
-same_by_full_names : (bytes : List ℕ) (o : Object) → HasWholeNames o → object_in bytes ≡ Some o → object_by_full_names bytes ≡ Some o
-unfolding object_by_full_names
-same_by_full_names bytes o whole read = rw (read, whole (strings_of bytes)) refl
+unfolding tail_object sections_by_full_names full_name
+linked_whole machine dll es = grind (arith, head_whole, all_append, export, tail, exports_whole)
 
 all_by_full_names : (members : List MemberView) (objects : List Object) → AllByRecursion HasWholeNames objects →
     map (λ (m : MemberView). object_in m.bytes) members ≡ map Some objects → map (λ (m : MemberView). object_by_full_names m.bytes) members ≡ map Some objects
-all_by_full_names [] objects whole read = grind arith
-all_by_full_names (m ∷ members) [] whole read = cc
-all_by_full_names (m ∷ members) (o ∷ objects) whole read = grind (arith, all_by_full_names members objects whole.1, same_by_full_names)
+unfolding object_by_full_names
+all_by_full_names (m ∷ members) (o ∷ objects) whole read = grind (arith, all_by_full_names members objects whole.1)
+all_by_full_names members objects whole read = cc
 
 own_by_full_names : (machine : MachineType) (p : LinkInput) → IsMade machine p →
     map (λ (m : MemberView). object_by_full_names m.bytes) (linked_members p.definition machine p.chosen) ≡ map Some (objects_in (linked_members p.definition machine p.chosen))
@@ -145,9 +126,8 @@ gnu_found [] = tt
 gnu_found (p ∷ inputs) = (tt, gnu_found inputs)
 
 pub gnu_thunks : (i : ℕ) (inputs : List LinkInput) → thunks_of i (map gnu_input inputs) ≡ thunks_before i inputs
-gnu_thunks zero inputs = refl
-gnu_thunks (suc i) [] = refl
 gnu_thunks (suc i) (p ∷ inputs) = ap (λ n. length (chosen_exports p.definition p.chosen) + 1 + n) (gnu_thunks i inputs)
+gnu_thunks i inputs = cc
 
 -- the objects of a program
 pub gnu_objects : (machine : MachineType) (inputs : List LinkInput) (objects : List Object) → IsDistinct bytes_eq (linked_symbols machine inputs) →
@@ -158,21 +138,17 @@ gnu_objects machine inputs objects distinct tables others = grind (arith, gnu_me
 -- the members and the null descriptor are such objects by themselves
 pub members_are_objects : (machine : MachineType) (inputs : List LinkInput) → AllByRecursion (IsMade machine) inputs → IsDistinct bytes_eq (linked_symbols machine inputs) →
     AreProgramObjects machine OfLinker (map gnu_input inputs) (objects_in (all_linked machine inputs) ++ null_descriptor ∷ [])
-members_are_objects machine inputs made distinct = search (rules, gnu_inputs_objects, objects_behind, block_of, blocks_have, null_has, gnu_objects, all_kept, none_left)
+unfolding has_tables
+members_are_objects machine inputs made distinct = search (rules, gnu_inputs_objects, objects_behind, block_of, blocks_have, gnu_objects, all_kept, none_left)
 
 -- A program of DLLs in both flavours links.
 
 -- The objects of the members have no `.idata$3`.
 
-asking_ends : (machine : MachineType) (dll : NamesOfDll) (symbol : List ℕ) (ask : Ask) → (e : ExportView) → EndsNothing (import_object machine dll.text symbol ask (use_for e))
-unfolding import_object
-asking_ends machine dll symbol (Ordinal n) e = (refl, (refl, (refl, tt)))
-asking_ends machine dll symbol (Name text hint) e = (refl, (refl, (refl, (refl, tt))))
-
 askings_end : (machine : MachineType) (dll : NamesOfDll) (es : List ExportView) (rest : List Object) → AllByRecursion EndsNothing rest → AllByRecursion EndsNothing (behind_descriptor machine dll es rest)
-unfolding with_section_symbols object_of null_thunk entries_of name_text
+unfolding with_section_symbols object_of null_thunk entries_of name_text import_object
 askings_end machine dll [] rest all = ((refl, (refl, tt)), all)
-askings_end machine dll (e ∷ es) rest all = (asking_ends machine dll (short_import_symbol e) (ask_in Msvc machine e) e, askings_end machine dll es rest all)
+askings_end machine dll (e ∷ es) rest all = (grind arith, askings_end machine dll es rest all)
 
 exports_end : (machine : MachineType) (dll : NamesOfDll) (es : List ExportView) (rest : List Object) → AllByRecursion EndsNothing rest →
     AllByRecursion EndsNothing (map (export machine dll) es ++ tail machine dll ∷ rest)
@@ -191,14 +167,10 @@ blocks_end machine (k ∷ blocks) = objects_end machine k.flavor k.dll k.exports
 
 -- Where `.idata$2` ends.
 
-asking_keeps : (machine : MachineType) (dll : NamesOfDll) (symbol : List ℕ) (ask : Ask) (e : ExportView) (n : ℕ) → sections_end Descriptors n (import_object machine dll.text symbol ask (use_for e)).sections ≡ n
-unfolding import_object sections_end
-asking_keeps machine dll symbol ask e n = grind arith
-
 askings_keep : (machine : MachineType) (dll : NamesOfDll) (es : List ExportView) (rest : List Object) (n : ℕ) → group_end Descriptors n (behind_descriptor machine dll es rest) ≡ group_end Descriptors n rest
-unfolding group_end sections_end with_section_symbols object_of null_thunk entries_of name_text
+unfolding group_end sections_end with_section_symbols object_of null_thunk entries_of name_text import_object
 askings_keep machine dll [] rest n = refl
-askings_keep machine dll (e ∷ es) rest n = grind (arith, askings_keep machine dll es rest n, behind_descriptor, asking_keeps)
+askings_keep machine dll (e ∷ es) rest n = grind (arith, askings_keep machine dll es rest n, behind_descriptor)
 
 exports_keep : (machine : MachineType) (dll : NamesOfDll) (es : List ExportView) (rest : List Object) (n : ℕ) →
     group_end Descriptors n (map (export machine dll) es ++ tail machine dll ∷ rest) ≡ group_end Descriptors n rest
@@ -206,24 +178,31 @@ unfolding group_end sections_end export_object tail_object
 exports_keep machine dll [] rest n = refl
 exports_keep machine dll (e ∷ es) rest n = exports_keep machine dll es rest n
 
-one_end : (machine : MachineType) (flavor : Flavor) (dll : NamesOfDll) (es : List ExportView) (rest : List Object) (n : ℕ) → n % 4 ≡ 0 →
-    group_end Descriptors n (objects_of machine flavor dll es rest) ≡ group_end Descriptors (n + 20) rest
-unfolding group_end sections_end with_section_symbols object_of descriptor entries_of name_text head_object
-one_end machine flavor dll es rest n even = grind (arith, behind_descriptor, aligned, even, askings_keep, export, tail, exports_keep)
-
 pub later_even : (n : ℕ) → n % 4 ≡ 0 → (n + 20) % 4 ≡ 0
 later_even n even = omega arith
 
 pub blocks_group_end : (machine : MachineType) (blocks : List FlavorBlock) (n : ℕ) → n % 4 ≡ 0 → group_end Descriptors n (all_objects machine blocks []) ≡ n + 20 * length blocks
-unfolding group_end
+unfolding group_end sections_end with_section_symbols object_of descriptor entries_of name_text head_object
 blocks_group_end machine [] n even = times_none n 20
-blocks_group_end machine (k ∷ blocks) n even = grind (arith, blocks_group_end machine blocks (n + 20) (later_even n even), one_end, all_objects, even, later_even, plus_sum)
+blocks_group_end machine (k ∷ blocks) n even = grind (
+  arith,
+  blocks_group_end machine blocks (n + 20) (later_even n even),
+  all_objects,
+  even,
+  later_even,
+  plus_sum,
+  behind_descriptor,
+  aligned,
+  askings_keep,
+  export,
+  tail,
+  exports_keep,
+)
 
 -- the same thunks, counted by inputs
 pub thunks_are : (i : ℕ) (ps : List FlavorInput) → thunks_in i (map block_in ps) ≡ thunks_of i ps
-thunks_are zero ps = refl
-thunks_are (suc i) [] = refl
 thunks_are (suc i) (p ∷ ps) = ap (λ n. length (exports_chosen p) + 1 + n) (thunks_are i ps)
+thunks_are i ps = cc
 
 pub imported_are : (machine : MachineType) (ps : List FlavorInput) → map (imported_of machine) (map block_in ps) ≡ map (imported_in machine) ps
 imported_are machine [] = refl
@@ -248,9 +227,6 @@ imports_of machine image linked p b descriptor table behind place begins one =
       gets = symbols_get linked (thunk_width machine) b.addresses (imp_symbols p) entries;
     }))
 
-contained_at : {X : Type 0} (P : X → Type 0) (xs : List X) (x : X) → AllByRecursion P xs → Contains xs x → P x
-contained_at P xs x all held = all_among P x xs (contains_among x xs held) all
-
 -- Where a library's null descriptor ends the directory.
 module _ (machine : MachineType) (inputs : List FlavorInput) (objects : List Object) (made : AllByRecursion (IsMadeFor machine) inputs) (ended : AreEndedByMember machine inputs objects) where
   -- the members' objects without the null descriptor
@@ -258,7 +234,7 @@ module _ (machine : MachineType) (inputs : List FlavorInput) (objects : List Obj
   parts_are = grind (arith, filter_map-append, inputs_objects)
 
   null_is : expanded_in machine (null_member machine (linked_dll ended.null_from.input.definition)).bytes ≡ Some (taken_null machine)
-  null_is = grind (arith, common_steps, null_object, contained_at)
+  null_is = grind (arith, common_steps, null_object)
 
   pub kept_are : filter has_tables objects ≡ objects_taken machine ended.before ++ taken_null machine ∷ objects_taken machine ended.behind
   kept_are = ended.tables ∙ objects_with_null machine ended.before ended.behind (null_member machine (linked_dll ended.null_from.input.definition)) null_is
@@ -288,11 +264,6 @@ pub kept_all : (machine : MachineType) (ending : Ending) (inputs : List FlavorIn
 kept_all machine OfLinker inputs objects made ended P null all = subst (AllByRecursion P) (sym (linker_kept machine inputs objects made ended)) all
 kept_all machine OfMember inputs objects made ended P null all = search (rules, kept_are machine inputs objects made ended, taken_null machine, parts_are machine inputs objects made ended, all_insert)
 
--- the names of members, without that of a null descriptor
-names_differ : (machine : MachineType) (ending : Ending) (inputs : List FlavorInput) → IsDistinct bytes_eq (own_names ending machine inputs) → IsDistinct bytes_eq (symbols_listed (all_members machine inputs))
-unfolding IsDistinct
-names_differ machine ending inputs distinct = grind arith
-
 -- What is placed of all objects with import tables is what is placed of the members' objects, and of what is behind them.
 pub record Stand (machine : MachineType) (ending : Ending) (b : Bases) (inputs : List FlavorInput) (objects : List Object) : Type 0 where
   pub contributed : (group : Group) → same_group group DirectoryEnds ≡ false → contributions machine (placed_from b objects) group (placed_from b objects)
@@ -307,16 +278,7 @@ pub record Stand (machine : MachineType) (ending : Ending) (b : Bases) (inputs :
 pub stand : (machine : MachineType) (ending : Ending) (b : Bases) (inputs : List FlavorInput) (objects : List Object) → AllByRecursion (IsMadeFor machine) inputs →
     IsProgramOf machine ending b inputs objects → Stand machine ending b inputs objects
 unfolding IsDistinct
-stand machine OfLinker b inputs objects made program =
-    let kept : filter has_tables objects ≡ all_objects machine (map block_in inputs) (null_descriptor ∷ []) = linker_kept machine inputs objects made program.held.ended in
-    let placed : with_tables (placed_from b objects) ≡ placed_from b (all_objects machine (map block_in inputs) (null_descriptor ∷ [])) = placed_kept b objects ∙ ap (placed_from b) kept in
-    record {
-      contributed = λ group other. contributions_kept machine (placed_from b objects) group b objects ∙ ap (λ os. contributions machine (placed_from b objects) group (placed_from b os)) kept;
-      defined = λ name m. grind (arith, definitions_kept, all_claim);
-      among = λ q m. subst (Among q) (sym placed) m;
-      finds = λ all. subst (AllByRecursion (AllFind (placed_from b objects))) (sym placed) all;
-      undefined = ap undefined_names placed;
-    }
+stand machine OfLinker b inputs objects made program = grind (arith, linker_kept, placed_kept, contributions_kept, definitions_kept, all_claim)
 stand machine OfMember b inputs objects made program =
     let ended = program.held.ended in
     let xs : List Object = objects_taken machine ended.before in
@@ -331,9 +293,7 @@ stand machine OfMember b inputs objects made program =
       contributed = λ group other. grind (arith, contributions_kept, group_same, even);
       defined = λ name m. grind (arith, among_later name null_descriptor_symbol names m, definitions_kept, all_claim, others_same, even, not_same_turned, all_among);
       among = λ q m. subst (Among q) (sym placed) (among_same machine b xs ys free even q (subst (λ os. Among q (placed_from b os)) (sym parts) m));
-      finds = λ all.
-          subst (AllByRecursion (AllFind (placed_from b objects))) (sym placed)
-          (finds_same machine b xs ys free even (placed_from b objects) (subst (λ os. AllByRecursion (AllFind (placed_from b objects)) (placed_from b os)) (sym parts) all));
+      finds = λ all. grind (arith, finds_same machine b xs ys free even (placed_from b objects) (subst (λ os. AllByRecursion (AllFind (placed_from b objects)) (placed_from b os)) (sym parts) all));
       undefined = ap undefined_names placed ∙ undefined_same machine b xs ys free even ∙ ap (λ os. undefined_names (placed_from b os)) parts;
     }
 
@@ -362,15 +322,15 @@ module _ (machine : MachineType) (ending : Ending) (b : Bases) (inputs : List Fl
   group_from group other located = subst (λ cs. BytesAt image (base_of group b) (filled (base_of group b) cs)) (stands.contributed group other) located
 
   located : LocatedFrom machine linked image b (all_objects machine dlls (rest_of ending))
-  located =
-      let all = each_located machine b objects program.admissible in
-      record {
-        descriptors = group_from Descriptors refl all.descriptors;
-        lookups = group_from Lookups refl all.lookups;
-        addresses = group_from Addresses refl all.addresses;
-        hint_names = group_from HintNames refl all.hint_names;
-        dll_names = group_from DllNames refl all.dll_names;
-      }
+  located = grind (
+    arith,
+    each_located machine b objects program.admissible,
+    group_from Descriptors refl (each_located machine b objects program.admissible).descriptors,
+    group_from Lookups refl (each_located machine b objects program.admissible).lookups,
+    group_from Addresses refl (each_located machine b objects program.admissible).addresses,
+    group_from HintNames refl (each_located machine b objects program.admissible).hint_names,
+    group_from DllNames refl (each_located machine b objects program.admissible).dll_names,
+  )
 
   abbrev defined : List SymbolDefinition
   defined = definitions_all machine b dlls
@@ -382,10 +342,11 @@ module _ (machine : MachineType) (ending : Ending) (b : Bases) (inputs : List Fl
   definitions_are = grind (arith, definitions-all, rest_of, suit, even, defined, ends_all, append-nil)
 
   pub only : (d : SymbolDefinition) → Among d (definitions_all machine b (map block_in inputs)) → definitions_of d.name (placed_from b objects) ≡ d ∷ []
+  unfolding IsDistinct
   only d m =
       stands.defined d.name (subst (Among d.name) names_are (among_map (λ (x : SymbolDefinition). x.name) d defined m))
       ∙ ap (λ ds. filter (λ (x : SymbolDefinition). bytes_eq d.name x.name) ds) definitions_are
-      ∙ only_definition d defined m (subst (IsDistinct bytes_eq) (sym names_are) (names_differ machine ending inputs program.held.distinct))
+      ∙ only_definition d defined m (subst (IsDistinct bytes_eq) (sym names_are) (grind arith))
 
 -- What is known of a library's null descriptor.
 module _ (machine : MachineType) (b : Bases) (inputs : List FlavorInput) (objects : List Object) (made : AllByRecursion (IsMadeFor machine) inputs) (program : IsProgramOf machine OfMember b inputs objects) where
@@ -414,13 +375,15 @@ module _ (machine : MachineType) (b : Bases) (inputs : List FlavorInput) (object
   -- in any memory that has the group's contributions at its base, zeros are where the descriptors end
   member_null : (ranges : List Range) → BytesAt ranges b.directory_ends (filled b.directory_ends (contributions machine (placed_from b objects) DirectoryEnds (placed_from b objects))) →
       BytesAt ranges (ends_all machine b (map block_in inputs)).descriptors (zeros 20)
-  member_null ranges there =
-      subst (λ n. BytesAt ranges n (zeros 20))
-      (follows ∙ ap (λ n. b.descriptors + 20 * n) (sym (length-map inputs block_in)) ∙ sym (descriptors_all machine b (map block_in inputs)))
-      (subst (BytesAt ranges b.directory_ends)
-      (ap (filled b.directory_ends) (contributions_kept machine (placed_from b objects) DirectoryEnds b objects
-      ∙ ap (λ os. contributions machine (placed_from b objects) DirectoryEnds (placed_from b os)) (kept_are machine inputs objects made program.held.ended))
-      ∙ null_filled machine b xs ys (none machine inputs objects made program.held.ended) program.admissible.directory_ends.1 (placed_from b objects)) there)
+  member_null ranges there = grind (
+    arith,
+    follows,
+    length-map inputs block_in,
+    descriptors_all machine b (map block_in inputs),
+    contributions_kept machine (placed_from b objects) DirectoryEnds b objects,
+    kept_are machine inputs objects made program.held.ended,
+    null_filled machine b xs ys (none machine inputs objects made program.held.ended) program.admissible.directory_ends.1 (placed_from b objects),
+  )
 
 -- The linker's null descriptor is where the descriptors end.
 linker_null : (machine : MachineType) (linked : List Placed) (ranges : List Range) (b : Bases) → AreAligned b →
@@ -444,16 +407,9 @@ null_known : (machine : MachineType) (ending : Ending) (b : Bases) (inputs : Lis
 null_known machine OfLinker b inputs objects made program = tt
 null_known machine OfMember b inputs objects made program = (b.directory_ends, null_only machine b inputs objects made program)
 
-null_address : (machine : MachineType) (ending : Ending) (b : Bases) (inputs : List FlavorInput) (objects : List Object) → AllByRecursion (IsMadeFor machine) inputs →
-    IsProgramOf machine ending b inputs objects →
-    WhereMember ending (definitions_of null_descriptor_symbol (placed_from b objects) ≡ record { name = null_descriptor_symbol; address = Some b.directory_ends } ∷ [])
-null_address machine OfLinker b inputs objects made program = tt
-null_address machine OfMember b inputs objects made program = null_only machine b inputs objects made program
-
 null_ends : (machine : MachineType) (ending : Ending) (b : Bases) (inputs : List FlavorInput) (objects : List Object) → AllByRecursion (IsMadeFor machine) inputs →
     IsProgramOf machine ending b inputs objects → WhereMember ending (b.directory_ends ≡ b.descriptors + 20 * length inputs)
-null_ends machine OfLinker b inputs objects made program = tt
-null_ends machine OfMember b inputs objects made program = follows machine b inputs objects made program
+null_ends machine ending b inputs objects made program = grind (arith, follows)
 
 claimed_are : (machine : MachineType) (ending : Ending) (b : Bases) (inputs : List FlavorInput) (objects : List Object) → AllByRecursion (IsMadeFor machine) inputs →
     IsProgramOf machine ending b inputs objects → AreClaimed ending (names_claimed_in (with_tables (placed_from b objects))) (own_names ending machine inputs)
@@ -505,7 +461,7 @@ module _ (machine : MachineType) (ending : Ending) (b : Bases) (inputs : List Fl
         directory = subst (DirectoryAt (image_of machine b all) (thunk_width machine) b.descriptors) (imported_are machine inputs)
             (directory_in machine all (image_of machine b all) (rest_of ending) (map block_in inputs) b each.imports
             (null_there machine ending b inputs objects made program (image_of machine b all) (group_located machine b objects program.admissible DirectoryEnds (inr (inl refl))) each.located.descriptors));
-        null = null_address machine ending b inputs objects made program;
+        null = grind (arith, null_only);
         ended = null_ends machine ending b inputs objects made program;
         targets = places.finds (each.targets (grind arith));
         defined = subst (AllByRecursion (IsDefinedAt all)) (sym places.undefined) (each.defined (rest_leaves ending last));
@@ -523,30 +479,20 @@ module _ (machine : MachineType) (ending : Ending) (b : Bases) (inputs : List Fl
 field_within : (machine : MachineType) → 0 + 4 ≤ length (zeros (thunk_width machine))
 field_within machine = grind arith
 
-asking_sized : (machine : MachineType) (dll : NamesOfDll) (symbol : List ℕ) (ask : Ask) (use_kind : Use) → IsSized (import_object machine dll.text symbol ask use_kind)
-unfolding import_object
-asking_sized machine dll symbol ask use_kind = grind (arith, field_within)
-
 askings_sized : (machine : MachineType) (dll : NamesOfDll) (es : List ExportView) (rest : List Object) → AllByRecursion IsSized rest → AllByRecursion IsSized (behind_descriptor machine dll es rest)
-unfolding with_section_symbols object_of null_thunk entries_of name_text
+unfolding with_section_symbols object_of null_thunk entries_of name_text import_object
 askings_sized machine dll [] rest all = ((tt, (tt, tt)), all)
-askings_sized machine dll (e ∷ es) rest all = (asking_sized machine dll (short_import_symbol e) (ask_in Msvc machine e) (use_for e), askings_sized machine dll es rest all)
-
-descriptor_sized : (machine : MachineType) (dll : NamesOfDll) → IsSized (taken_descriptor machine dll)
-unfolding with_section_symbols object_of descriptor entries_of name_text
-descriptor_sized machine dll = ((omega arith, (omega arith, (omega arith, tt))), (tt, (tt, (tt, tt))))
+askings_sized machine dll (e ∷ es) rest all = (grind (arith, field_within), askings_sized machine dll es rest all)
 
 pub all_sized : (machine : MachineType) (ending : Ending) (blocks : List FlavorBlock) → AllByRecursion IsSized (all_objects machine blocks (rest_of ending))
+unfolding with_section_symbols object_of descriptor entries_of name_text
 all_sized machine ending [] = grind arith
-all_sized machine ending (k ∷ blocks) = grind (arith, descriptor_sized, askings_sized, head_sized, exports_sized, tail_sized, all_sized machine ending blocks)
-
-null_sized : (machine : MachineType) → IsSized (taken_null machine)
-unfolding with_section_symbols object_of Rattle.implib.specs.Members.MsvcObjects.null_descriptor entries_of name_text
-null_sized machine = (tt, tt)
+all_sized machine ending (k ∷ blocks) = grind (arith, askings_sized, head_sized, exports_sized, tail_sized, all_sized machine ending blocks)
 
 pub kept_sized : (machine : MachineType) (ending : Ending) (inputs : List FlavorInput) (objects : List Object) → AllByRecursion (IsMadeFor machine) inputs →
     AreEnded ending machine inputs objects → AllByRecursion IsSized (filter has_tables objects)
-kept_sized machine ending inputs objects made ended = kept_all machine ending inputs objects made ended IsSized (null_sized machine) (all_sized machine ending (map block_in inputs))
+unfolding with_section_symbols object_of Rattle.implib.specs.Members.MsvcObjects.null_descriptor entries_of name_text
+kept_sized machine ending inputs objects made ended = kept_all machine ending inputs objects made ended IsSized (tt, tt) (all_sized machine ending (map block_in inputs))
 
 -- multiples of 8 are multiples of a thunk's width
 of_eight : (machine : MachineType) (n : ℕ) → n % 8 ≡ 0 → n % thunk_width machine ≡ 0
@@ -556,23 +502,19 @@ lookups_eights : (first : ℕ) (objects : List Object) → (packed first objects
 unfolding next_multiple
 lookups_eights first objects = omega arith
 
-first_even : (first : ℕ) → packed_descriptors first % 4 ≡ 0
-unfolding next_multiple
-first_even first = omega arith
-
 pub packed_objects : (machine : MachineType) (ending : Ending) (first : ℕ) (inputs : List FlavorInput) (objects : List Object) → AllByRecursion (IsMadeFor machine) inputs →
     AreProgramObjects machine ending inputs objects → 0 < first → packed_end first objects < 2 ^ 31 → IsProgramOf machine ending (packed first objects) inputs objects
+unfolding next_multiple
 packed_objects machine OfLinker first inputs objects made held above below = grind (arith, admissible machine first objects (kept_sized machine OfLinker inputs objects made held.ended) above below)
-packed_objects machine OfMember first inputs objects made held above below =
-    let base : ℕ = packed_descriptors first in
-    let ends_at : group_end Descriptors base objects ≡ base + 20 * length inputs = directory_end machine inputs objects made held.ended base (first_even first) in
-    record {
-      held = held;
-      admissible = admissible machine first objects (kept_sized machine OfMember inputs objects made held.ended) above below;
-      lookups = of_eight machine (packed first objects).lookups (lookups_eights first objects);
-      addresses = of_eight machine (packed first objects).addresses (packed_eights first objects);
-      follows = aligned (group_end Descriptors base objects) (ap (λ n. n % 4) ends_at ∙ (omega (arith, first_even first)));
-    }
+packed_objects machine OfMember first inputs objects made held above below = grind (
+  arith,
+  directory_end machine inputs objects made held.ended (packed_descriptors first) (omega arith),
+  admissible machine first objects (kept_sized machine OfMember inputs objects made held.ended) above below,
+  of_eight machine (packed first objects).lookups (lookups_eights first objects),
+  of_eight machine (packed first objects).addresses (packed_eights first objects),
+  follows,
+  aligned,
+)
 
 pub packed_admissible : (machine : MachineType) (ending : Ending) (first : ℕ) (inputs : List FlavorInput) (objects : List Object) → AllByRecursion (IsMadeFor machine) inputs →
     AreEnded ending machine inputs objects → 0 < first → packed_end first objects < 2 ^ 31 → IsAdmissible machine (packed first objects) objects

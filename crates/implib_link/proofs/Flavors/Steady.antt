@@ -1,5 +1,5 @@
 -- The import tables of both flavours without the address tables: what a loader reads that writes there.
-use Rattle.std.proofs.Common.{◌≡◌, ℕ, suc, ◌+◌, ◌*◌, ◌<◌, ◌^◌, List, [], ◌∷◌, ◌++◌, length, map, refl, ap, sym, ◌∙◌, subst, arith, ◌⊎◌, false, None, inl, inr, zero, Some, codes, ◌-◌, ◌%◌}
+use Rattle.std.proofs.Common.{◌≡◌, ℕ, suc, ◌+◌, ◌*◌, ◌<◌, ◌^◌, List, [], ◌∷◌, ◌++◌, length, map, refl, ap, sym, ◌∙◌, subst, arith, ◌⊎◌, false, None, inr, Some, codes, ◌-◌, ◌%◌}
 use Rattle.std.specs.List.{AllByRecursion, filter}
 use Rattle.std.proofs.lemmas.List.{length-map, append-nil, append_cancel_left, append_assoc}
 use Rattle.implib.specs.declared.machine.MachineType.{MachineType}
@@ -12,21 +12,19 @@ use Rattle.implib.specs.Import.{Ask}
 use Rattle.implib.specs.Link.Image.{Range, contributions, filled, range_end, IsAdmissible, image_of}
 use Rattle.implib.specs.Link.Load.{BytesAt}
 use Rattle.implib.specs.Link.Placement.{Addresses, Bases, Placed, next_multiple, placed_from, SectionAddress, end_after, ends_after, group_named, section_address_of, section_addresses_of, Descriptors, DirectoryEnds, DllNames, Group, HintNames, Lookups, base_of, same_group}
-use Rattle.implib.specs.Link.Resolution.{SymbolDefinition, definitions, definitions_of, first_address}
+use Rattle.implib.specs.Link.Resolution.{SymbolDefinition, definitions, definitions_of}
 use Rattle.implib.specs.Members.Gnu.{head_object, export_object, relocations_of_thunk, tail_object}
 use Rattle.implib.specs.Members.ImportTables.{thunk_width, zeros}
-use Rattle.implib.specs.Members.Msvc.{short_import_symbol}
 use Rattle.implib.specs.Members.MsvcObjects.{descriptor, null_thunk, null_descriptor}
-use Rattle.implib.proofs.Link.Placement.{export, head, tail}
+use Rattle.implib.proofs.Link.Placement.{export, head}
 use Rattle.implib.proofs.Link.Ranges.{Among, among_back, among_front}
-use Rattle.implib_link.specs.Flavors.Expansion.{Use, import_object, with_section_symbols}
+use Rattle.implib_link.specs.Flavors.Expansion.{import_object, with_section_symbols}
 use Rattle.implib_link.specs.Flavors.Program.{Ending, ask_in, has_tables, AreEnded, FlavorInput, IsMadeFor, imported_in, thunks_of, IsProgramOf, group_end, sections_end}
 use Rattle.implib_link.proofs.Gnu.Filling.{LocatedBeside, block_beside, rest_beside, descriptor_beside, table_bounds, DescriptorBeside, DirectoryBeside, avoids_addresses, beside_of, keeps_beside, descriptors_beside, directory_ends_beside, dll_names_beside, ends_beside, hint_names_beside, lookups_beside, starts_beside, all_filled, can_run, left_alike, runs_once}
-use Rattle.implib_link.proofs.Flavors.Block.{AreEven, FitsIn, Suits, behind_descriptor, definitions-in, definitions_in, ends_in, even_aligned, even_in, even_wide, objects_of, use_for, askings_stand, AllSuit, BlocksIn, CanLink, FlavorBlock, addresses_one, all_objects, descriptors_one, ends_all, ends_one, imported_of, rest_of, thunks_in, definitions-all, definitions_all, table_sum}
-use Rattle.implib_link.proofs.Flavors.Expanded.{AreWide, ends_of_descriptor, wide_descriptor, descriptor_stands, taken_descriptor, taken_null}
+use Rattle.implib_link.proofs.Flavors.Block.{AreEven, FitsIn, Suits, behind_descriptor, definitions-in, definitions_in, ends_in, even_aligned, even_in, even_wide, objects_of, askings_stand, AllSuit, BlocksIn, CanLink, FlavorBlock, addresses_one, all_objects, descriptors_one, ends_all, ends_one, imported_of, rest_of, thunks_in, definitions-all, definitions_all, table_sum}
+use Rattle.implib_link.proofs.Flavors.Expanded.{AreWide, ends_of_descriptor, wide_descriptor, descriptor_stands, taken_null}
 use Rattle.implib.specs.LibraryName.{NamesOfDll}
 use Rattle.implib_link.proofs.Gnu.Loaded.{Keeps, memory_can_be_read, memory_read, thunks_asked}
-use Rattle.std.proofs.lemmas.Bool.{cases_Bool}
 use Rattle.implib.specs.declared.coff.object.Relocation.{Relocation}
 use Rattle.implib.specs.Formats.Constants.{image_relative, class_external}
 use Rattle.implib_link.specs.Gnu.Fields.{absolute_width, places_at, table_places, table_places_in, LinkedCode}
@@ -96,11 +94,7 @@ module _ (machine : MachineType) (ending : Ending) (rest : List Object) (linked 
       (λ d m. every d (among_front d own (definitions (placed_from last behind)) m)) located in
       let others = all_beside blocks last fit.1 (even_in machine ending k.flavor k.dll b es fit.0.suits even)
       (λ d m. every d (among_back d own (definitions (placed_from last behind)) m)) links.1 one.1 null in
-      let table : last.addresses ≡ b.addresses + thunk_width machine * (length (map (ask_in k.flavor machine) es) + 1) = grind (arith, addresses_one, length-map) in (
-        one.0,
-        subst (λ n. DirectoryBeside beside (thunk_width machine) (b.descriptors + 20) n (map (imported_of machine) blocks)) table
-            (subst (λ n. DirectoryBeside beside (thunk_width machine) n last.addresses (map (imported_of machine) blocks)) (sym (descriptors_one machine k.flavor k.dll b es)) others),
-      )
+      grind (arith, addresses_one, length-map, imported_of, descriptors_one)
 
 -- How long the address tables are: an object behind those of DLLs, in the same group, is where they end.
 
@@ -116,9 +110,6 @@ behind_tables = record {
 
 abbrev at_address : ℕ → List SymbolDefinition
 at_address n = record { name = []; address = Some n } ∷ []
-
-one_address : (n m : ℕ) → at_address n ≡ at_address m → n ≡ m
-one_address n m same = let both : Some n ≡ Some m = ap first_address same in cc
 
 begins_at : (b : Bases) → definitions (placed_from b (behind_tables ∷ [])) ≡ at_address b.addresses
 unfolding next_multiple
@@ -141,7 +132,7 @@ tables_end machine ending blocks b suit even =
     let defined : List SymbolDefinition = definitions_all machine b blocks in
     let last : Bases = ends_behind b own in
     let parts : definitions (placed_from b (all_objects machine blocks (behind_tables ∷ []))) ≡ defined ++ at_address last.addresses = grind (arith, objects_split, placed_parts, flat_map-append, definitions-all, suit, even, append-nil, begins_at) in
-    let ends : last.addresses ≡ (ends_all machine b blocks).addresses = grind (arith, definitions-all, suit, even, begins_at, ends_all, one_address, ends_all, append_cancel_left) in
+    let ends : last.addresses ≡ (ends_all machine b blocks).addresses = grind (arith, definitions-all, suit, even, begins_at, ends_all, ends_all, append_cancel_left) in
     (grind (arith, objects_split, rest_of, group_end-append, all_objects)) ∙ sym (end_behind Addresses b own) ∙ ends ∙ addresses_all machine b blocks
 
 all_long : (machine : MachineType) (linked : List Placed) (ending : Ending) (blocks : List FlavorBlock) (b : Bases) → AllSuit ending blocks → AreEven ending machine b →
@@ -195,41 +186,23 @@ pub head_steady : (machine : MachineType) (dll : NamesOfDll) → AllSteady machi
 unfolding head_object
 head_steady machine dll = grind arith
 
-pub tail_steady : (machine : MachineType) (dll : NamesOfDll) → AllSteady machine (tail machine dll)
-unfolding tail_object
-tail_steady machine dll = (inl refl, (inl refl, (inl refl, (inr tt, (inr tt, (inr tt, tt))))))
-
-thunk_steady : (machine : MachineType) (e : ExportView) → NoneAbsolute machine (relocations_of_thunk machine e)
-unfolding relocations_of_thunk
-thunk_steady machine e = elim (cases_Bool e.no_name) [ inl is ↦ rw is tt | inr is ↦ rw is (relative_steady machine, tt) ]
-
-export_steady : (machine : MachineType) (dll : NamesOfDll) (e : ExportView) → AllSteady machine (export machine dll e)
-unfolding export_object
-export_steady machine dll e = grind (arith, relative_steady, thunk_steady)
-
 pub exports_steady : (machine : MachineType) (dll : NamesOfDll) (es : List ExportView) (rest : List Object) → AllByRecursion (AllSteady machine) rest →
     AllByRecursion (AllSteady machine) (map (export machine dll) es ++ rest)
+unfolding export_object relocations_of_thunk
 exports_steady machine dll [] rest all = all
-exports_steady machine dll (e ∷ es) rest all = (export_steady machine dll e, exports_steady machine dll es rest all)
+exports_steady machine dll (e ∷ es) rest all = (grind (arith, relative_steady), exports_steady machine dll es rest all)
 
 -- The import tables of both flavours have no base relocations.
 
-asking_steady : (machine : MachineType) (dll : NamesOfDll) (symbol : List ℕ) (ask : Ask) (use_kind : Use) → AllSteady machine (import_object machine dll.text symbol ask use_kind)
-unfolding import_object
-asking_steady machine dll symbol ask use_kind = grind (arith, relative_steady)
-
 askings_steady : (machine : MachineType) (dll : NamesOfDll) (es : List ExportView) (rest : List Object) → AllByRecursion (AllSteady machine) rest → AllByRecursion (AllSteady machine) (behind_descriptor machine dll es rest)
-unfolding with_section_symbols object_of null_thunk entries_of name_text
+unfolding with_section_symbols object_of null_thunk entries_of name_text import_object
 askings_steady machine dll [] rest all = ((inr tt, (inr tt, tt)), all)
-askings_steady machine dll (e ∷ es) rest all = (asking_steady machine dll (short_import_symbol e) (ask_in Msvc machine e) (use_for e), askings_steady machine dll es rest all)
-
-descriptor_steady : (machine : MachineType) (dll : NamesOfDll) → AllSteady machine (taken_descriptor machine dll)
-unfolding with_section_symbols object_of descriptor entries_of name_text
-descriptor_steady machine dll = grind arith
+askings_steady machine dll (e ∷ es) rest all = (grind (arith, relative_steady), askings_steady machine dll es rest all)
 
 blocks_steady : (machine : MachineType) (ending : Ending) (blocks : List FlavorBlock) → AllByRecursion (AllSteady machine) (all_objects machine blocks (rest_of ending))
+unfolding with_section_symbols object_of descriptor entries_of name_text tail_object
 blocks_steady machine ending [] = grind arith
-blocks_steady machine ending (k ∷ blocks) = grind (arith, descriptor_steady, askings_steady, head_steady, exports_steady, tail_steady, blocks_steady machine ending blocks)
+blocks_steady machine ending (k ∷ blocks) = grind (arith, askings_steady, head_steady, exports_steady, blocks_steady machine ending blocks)
 
 null_steady : (machine : MachineType) → AllSteady machine (taken_null machine)
 unfolding with_section_symbols object_of null_descriptor entries_of name_text
@@ -285,9 +258,8 @@ module _ (machine : MachineType) (b : Bases) (objects : List Object) (admissible
 -- A loader that writes as it goes loads a program, as one that reads first.
 
 thunks_same : (machine : MachineType) (i : ℕ) (inputs : List FlavorInput) → thunks_asked i (map (imported_in machine) inputs) ≡ thunks_of i inputs
-thunks_same machine zero inputs = refl
-thunks_same machine (suc i) [] = refl
 thunks_same machine (suc i) (p ∷ inputs) = grind (arith, thunks_same machine i inputs, thunks_asked, length-map)
+thunks_same machine i inputs = cc
 
 module _ (machine : MachineType) (ending : Ending) (b : Bases) (inputs : List FlavorInput) (objects : List Object) (made : AllByRecursion (IsMadeFor machine) inputs) (program : IsProgramOf machine ending b inputs objects) where
   abbrev linked : List Placed
@@ -303,12 +275,13 @@ module _ (machine : MachineType) (ending : Ending) (b : Bases) (inputs : List Fl
       subst (λ cs. BytesAt (beside_of machine b objects program.admissible) (base_of group b) (filled (base_of group b) cs)) ((stand machine ending b inputs objects made program).contributed group other) located
 
   located : LocatedBeside machine linked (beside_of machine b objects program.admissible) b (all_objects machine dlls (rest_of ending))
-  located = record {
-    descriptors = group_of Descriptors refl (descriptors_beside machine b objects program.admissible);
-    lookups = group_of Lookups refl (lookups_beside machine b objects program.admissible);
-    hint_names = group_of HintNames refl (hint_names_beside machine b objects program.admissible);
-    dll_names = group_of DllNames refl (dll_names_beside machine b objects program.admissible);
-  }
+  located = grind (
+    arith,
+    group_of Descriptors refl (descriptors_beside machine b objects program.admissible),
+    group_of Lookups refl (lookups_beside machine b objects program.admissible),
+    group_of HintNames refl (hint_names_beside machine b objects program.admissible),
+    group_of DllNames refl (dll_names_beside machine b objects program.admissible),
+  )
 
   pub program_beside : DirectoryBeside (beside_of machine b objects program.admissible) (thunk_width machine) b.descriptors b.addresses (map (imported_in machine) inputs)
   program_beside =

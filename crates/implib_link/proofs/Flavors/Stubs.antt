@@ -1,5 +1,5 @@
 -- Placed code that defines the name of an export of code is its stub.
-use Rattle.std.proofs.Common.{◌≡◌, ℕ, List, Option, None, Some, refl, sym, ◌∙◌, subst, zero, suc, ◌+◌, ◌*◌, Bool, false, [], ◌∷◌, length, map, ap, inl, inr, if◌then◌else◌, arith, ◌≤◌}
+use Rattle.std.proofs.Common.{◌≡◌, ℕ, List, Option, Some, refl, sym, ◌∙◌, subst, zero, suc, ◌+◌, ◌*◌, [], ◌∷◌, length, map, ap, inl, inr, arith, ◌≤◌}
 use Rattle.std.specs.Prelude.{slice_get, option_map}
 use Rattle.std.specs.Option.{option_and_then}
 use Rattle.implib.specs.Formats.Object.{ASymbol, Entry, ObjectSection, ObjectSymbol, section_numbered, Object}
@@ -10,7 +10,7 @@ use Rattle.implib.specs.declared.flavor.Flavor.TheVariants.{Gnu, Msvc}
 use Rattle.implib.specs.Formats.Constants.{align_4bytes, class_external, cnt_code, mem_execute_read}
 use Rattle.implib.specs.Definition.{ExportView}
 use Rattle.implib.specs.Members.Gnu.{archive_symbols, section, stub_bytes, stub_relocations, text_name}
-use Rattle.implib.specs.Import.{Ask, Name, Ordinal}
+use Rattle.implib.specs.Import.{Ask}
 use Rattle.implib.specs.Members.ImportTables.{thunk_width}
 use Rattle.implib.specs.Link.Linked.{IsDefinedOnce}
 use Rattle.implib.specs.Members.Msvc.{short_import_symbols, short_import_symbol}
@@ -20,7 +20,7 @@ use Rattle.implib.proofs.Link.Linked.{address_found}
 use Rattle.implib.proofs.Link.LinkedMembers.{among_map}
 use Rattle.implib.proofs.Link.Placement.{AreAligned, after_head, aligned_head, ends_of_head, placed-head, placed_export}
 use Rattle.implib.proofs.Link.Ranges.{Among, all_among, among_first, among_front, among_later, among_flat}
-use Rattle.implib_link.specs.Flavors.Expansion.{Code, Constant, Data, Use, import_object}
+use Rattle.implib_link.specs.Flavors.Expansion.{Code, Use, import_object}
 use Rattle.implib_link.specs.Flavors.Program.{Ending, FlavorInput, IsCode, IsMadeFor, all_members, ask_in, exports_chosen, symbol_in, symbols_listed, IsProgramOf, dll_names_in, thunks_of, has_tables}
 use Rattle.implib_link.proofs.Flavors.Block.{table_sum, AreEven, Suits, behind_descriptor, ends_in, ends_of_askings, even_aligned, even_in, even_wide, objects_of, symbols_of, use_for, AllSuit, FlavorBlock, addresses_one, all_objects, ends_one, thunks_in, rest_of}
 use Rattle.implib_link.proofs.Flavors.Inputs.{block_in, inputs_symbols}
@@ -35,8 +35,7 @@ use Rattle.implib_link.specs.Gnu.Fields.{Defines, PlacedCode, StubAt}
 use Rattle.implib_link.proofs.Gnu.Others.{one_definer}
 
 pub found_entry : (f : Entry → Option ℕ) (o : Option Entry) (a : ℕ) → option_and_then f o ≡ Some a → (x : Entry) × ((o ≡ Some x) × (f x ≡ Some a))
-found_entry f None a is = cc
-found_entry f (Some x) a is = (x, (refl, is))
+found_entry f o a is = grind arith
 
 pub same_section : (sections : List ObjectSection) (n : ℕ) (first second : ObjectSection) → n ≡ 1 → section_numbered sections n ≡ Some first → slice_get sections 0 ≡ Some second → first ≡ second
 same_section sections n first second one numbered at = grind arith
@@ -58,15 +57,7 @@ asking_placed machine dll [] b rest even j e is = cc
 asking_placed machine dll (x ∷ es) b rest even zero e is =
     grind (arith, behind_descriptor machine dll es rest, use_for x, ends_of_asking machine b (ask_in Msvc machine x), times_none b.addresses (thunk_width machine), placed-asking, even, among_first)
 asking_placed machine dll (x ∷ es) b rest even (suc j) e is =
-    let ask : Ask = ask_in Msvc machine x in
-    let found = asking_placed machine dll es (ends_of_asking machine b ask) rest (wide_asking machine b ask even) j e is in (
-      found.0,
-      (
-        subst (Among (placed_in machine Msvc dll found.0 e)) (sym (placed-asking machine dll b (short_import_symbol x) ask (use_for x) (behind_descriptor machine dll es rest) even))
-            (among_later (placed_in machine Msvc dll found.0 e) _ _ found.1.0),
-        found.1.1 ∙ times_next b.addresses (thunk_width machine) j,
-      ),
-    )
+    grind (arith, placed-asking, among_later, times_next, asking_placed machine dll es (ends_of_asking machine b (ask_in Msvc machine x)) rest (wide_asking machine b (ask_in Msvc machine x) even) j e is)
 
 one_placed : (machine : MachineType) (ending : Ending) (flavor : Flavor) (dll : NamesOfDll) (es : List ExportView) (b : Bases) (rest : List Object) → Suits ending flavor → AreEven ending machine b → (j : ℕ) (e : ExportView) →
     slice_get es j ≡ Some e →
@@ -88,8 +79,7 @@ behind_askings machine dll (e ∷ es) b rest q even m = grind (arith, behind_ask
 
 behind_one : (machine : MachineType) (ending : Ending) (flavor : Flavor) (dll : NamesOfDll) (es : List ExportView) (b : Bases) (rest : List Object) (q : Placed) → Suits ending flavor → AreEven ending machine b →
     Among q (placed_from (ends_in machine flavor dll b es) rest) → Among q (placed_from b (objects_of machine flavor dll es rest))
-behind_one machine ending Msvc dll es b rest q suits even m = grind (arith, even_wide, even, placed-descriptor, behind_descriptor, among_later, behind_askings, ends_of_descriptor, wide_descriptor)
-behind_one machine ending Gnu dll es b rest q suits even m = grind (arith, even_aligned, even, placed-head, after_head, among_later, behind_exports, ends_of_head, aligned_head)
+behind_one machine ending flavor dll es b rest q suits even m = grind (arith, even_aligned, even, placed-head, after_head, among_later, behind_exports, ends_of_head, aligned_head, even_wide, placed-descriptor, behind_descriptor, behind_askings, ends_of_descriptor, wide_descriptor)
 
 pub all_placed : (machine : MachineType) (ending : Ending) (rest : List Object) (blocks : List FlavorBlock) (b : Bases) → AllSuit ending blocks → AreEven ending machine b → (i j : ℕ) (k : FlavorBlock) (e : ExportView) → slice_get blocks i ≡ Some k → slice_get k.exports j ≡ Some e →
     (c : Bases) × (Among (placed_in machine k.flavor k.dll c e) (placed_from b (all_objects machine blocks rest))
@@ -109,19 +99,10 @@ all_placed machine ending rest (q ∷ blocks) b suit even (suc i) j k e is chose
 
 -- The code of an export for Microsoft's linker.
 
-use_is : (is_data constant : Bool) → is_data ≡ false → constant ≡ false → (if is_data then Data else if constant then Constant else Code) ≡ Code
-use_is is_data constant data_is constant_is = cc
-
 asking_defined : (machine : MachineType) (dll : NamesOfDll) (b : Bases) (symbol : List ℕ) (ask : Ask) →
     Among (ASymbol (record { name = symbol; value = 0; section = 1; kind = 0; class = class_external })) (placed_asking machine dll b symbol ask Code).object.entries
 unfolding import_object Among
-asking_defined machine dll b symbol (Ordinal n) = inr (inr (inr (inl refl)))
-asking_defined machine dll b symbol (Name text hint) = inr (inr (inr (inr (inl refl))))
-
-asking_code : (machine : MachineType) (dll : NamesOfDll) (b : Bases) (symbol : List ℕ) (ask : Ask) →
-    slice_get (placed_asking machine dll b symbol ask Code).object.sections 0 ≡ Some (section text_name (cnt_code + align_4bytes + mem_execute_read) (stub_bytes machine) (stub_relocations machine 2))
-unfolding import_object
-asking_code machine dll b symbol ask = refl
+asking_defined machine dll b symbol ask = grind arith
 
 asking_target : (machine : MachineType) (dll : NamesOfDll) (linked : List Placed) (b : Bases) (symbol : List ℕ) (ask : Ask) (use_kind : Use) (entry : ℕ) → b.addresses ≡ entry →
     target_address linked (placed_asking machine dll b symbol ask use_kind) 2 ≡ entry
@@ -142,23 +123,28 @@ pub record CodeOf (machine : MachineType) (linked : List Placed) (symbol : List 
 
 msvc_code : (machine : MachineType) (dll : NamesOfDll) (linked : List Placed) (b : Bases) (symbol : List ℕ) (ask : Ask) (use_kind : Use) (entry : ℕ) → use_kind ≡ Code → b.addresses ≡ entry →
     CodeOf machine linked symbol (placed_asking machine dll b symbol ask use_kind) entry
-msvc_code machine dll linked b symbol ask use_kind entry is same =
-    subst (λ (u : Use). CodeOf machine linked symbol (placed_asking machine dll b symbol ask u) entry) (sym is) (record {
-      defined = asking_defined machine dll b symbol ask;
-      here = asking_code machine dll b symbol ask;
-      target = asking_target machine dll linked b symbol ask Code entry same;
-      found = asking_found machine dll linked b symbol ask Code entry same;
-    })
+unfolding import_object
+msvc_code machine dll linked b symbol ask use_kind entry is same = grind (
+  arith,
+  placed_asking,
+  asking_defined machine dll b symbol ask,
+  refl,
+  asking_target machine dll linked b symbol ask Code entry same,
+  asking_found machine dll linked b symbol ask Code entry same,
+)
 
 pub code_in : (machine : MachineType) (flavor : Flavor) (dll : NamesOfDll) (linked : List Placed) (b : Bases) (e : ExportView) (entry : ℕ) → IsCode flavor e → b.addresses ≡ entry →
     CodeOf machine linked (symbol_in flavor e) (placed_in machine flavor dll b e) entry
-code_in machine Msvc dll linked b e entry is same = msvc_code machine dll linked b (short_import_symbol e) (ask_in Msvc machine e) (use_for e) entry (use_is e.is_data e.constant is.0 is.1) same
-code_in machine Gnu dll linked b e entry is same = record {
-  defined = code_defined machine dll b e is;
-  here = grind (arith, code_here machine dll b e, code_bytes machine e is, code_relocations machine e is);
-  target = target_is machine dll linked b e entry is same;
-  found = (grind (arith, address_found machine dll linked b e is));
-}
+code_in machine Msvc dll linked b e entry is same = msvc_code machine dll linked b (short_import_symbol e) (ask_in Msvc machine e) (use_for e) entry (cc) same
+code_in machine Gnu dll linked b e entry is same = grind (
+  arith,
+  code_defined machine dll b e is,
+  code_here machine dll b e,
+  code_bytes machine e is,
+  code_relocations machine e is,
+  target_is machine dll linked b e entry is same,
+  address_found machine dll linked b e is,
+)
 
 -- the name of code is one that its member is listed for
 listed_in : (machine : MachineType) (flavor : Flavor) (dll : NamesOfDll) (es : List ExportView) (j : ℕ) (e : ExportView) → slice_get es j ≡ Some e → IsCode flavor e →
@@ -199,16 +185,4 @@ stub_at machine ending bases inputs objects i j p e d t made program input chose
     let most : length (definitions_of symbol linked) ≤ 1 = rw (name_once machine ending bases inputs objects i j p e made program input chosen is).1 (omega arith) in
     let d_linked : Among d.from linked = contains_among d.from linked d_from in
     let one = one_definer symbol linked d.from own t own_symbol most d_linked (contains_among (ASymbol t) d.from.object.entries defines.held) defines.external named own_held code.defined refl refl in
-    let t_is : t ≡ own_symbol = symbol_of_entry t own_symbol one.1 in
-    let first : d.number ≡ 1 = sym defines.here ∙ ap (λ (x : ObjectSymbol). x.section) t_is in
-    let numbered : section_numbered own.object.sections d.number ≡ Some d.code = grind arith in
-    let code_is = same_section own.object.sections d.number d.code (section text_name (cnt_code + align_4bytes + mem_execute_read) (stub_bytes machine) (stub_relocations machine 2)) first numbered code.here in
-    let at = found_entry (symbol_address linked own) (slice_get own.object.entries 2) entry code.found in
-    record {
-      bytes = ap (λ (x : ObjectSection). x.bytes) code_is;
-      relocations = ap (λ (x : ObjectSection). x.relocations) code_is;
-      begins = ap (λ (x : ObjectSymbol). x.value) t_is;
-      symbol = at.0;
-      held = subst (λ (x : Placed). slice_get x.object.entries 2 ≡ Some at.0) (sym one.0) at.1.0;
-      placed = subst (λ (x : Placed). symbol_address linked x at.0 ≡ Some entry) (sym one.0) at.1.1;
-    }
+    grind (arith, symbol_of_entry t own_symbol one.1, same_section, found_entry (symbol_address linked own) (slice_get own.object.entries 2) entry code.found)

@@ -36,9 +36,8 @@ AsksInFlavor flavor machine s = ask_in flavor machine s.export ≡ ask_stated s
 each_asks : (flavor : Flavor) (machine : MachineType) (exports : List ExportView) (statements : List Export) → EachAsksForItsWord machine exports statements →
     AllByRecursion (AsksInFlavor flavor machine) (stated exports statements)
 unfolding AsksInFlavor
-each_asks flavor machine [] statements each = grind arith
-each_asks flavor machine (e ∷ exports) [] each = absurd each
 each_asks flavor machine (e ∷ exports) (s ∷ statements) each = grind (arith, each_asks flavor machine exports statements each.1)
+each_asks flavor machine exports statements each = cc
 
 same_asks : (flavor : Flavor) (machine : MachineType) (xs : List Stated) → AllByRecursion (AsksInFlavor flavor machine) xs →
     map (ask_in flavor machine) (map (λ (s : Stated). s.export) xs) ≡ map ask_stated xs
@@ -71,7 +70,7 @@ names_are Gnu exports all = refl
 
 sources_made : (machine : MachineType) (sources : List FlavorSource) → AllByRecursion (IsFlavorSource machine) sources → AllByRecursion (IsMadeFor machine) (map input_of sources)
 sources_made machine [] are = tt
-sources_made machine (s ∷ sources) are = ((grind (arith, are.0)), sources_made machine sources are.1)
+sources_made machine (s ∷ sources) are = (grind (arith, are.0), sources_made machine sources are.1)
 
 -- an input's imports, by its exports and its DLL's name
 record ImportsOf (machine : MachineType) (image : List Range) (linked : List Placed) (descriptor table : ℕ) (flavor : Flavor) (dll : NamesOfDll) (es : List ExportView) : Type 0 where
@@ -80,10 +79,6 @@ record ImportsOf (machine : MachineType) (image : List Range) (linked : List Pla
   table_located : loads.plain.addresses ≡ table
   entries : SymbolsAt linked (thunk_width machine) table (map (λ e. imp_symbol (symbol_in flavor e)) es)
   gets : SymbolsGet linked (thunk_width machine) table (map (λ e. imp_symbol (symbol_in flavor e)) es)
-
-to_parts : (machine : MachineType) (image : List Range) (linked : List Placed) (descriptor table : ℕ) (p : FlavorInput) → InputImports machine image linked descriptor table p →
-    ImportsOf machine image linked descriptor table p.flavor (dll_names_in p) (exports_chosen p)
-to_parts machine image linked descriptor table p i = record { top = i.top; loads = i.loads; table_located = i.table_located; entries = i.entries; gets = i.gets }
 
 from_parts : (machine : MachineType) (image : List Range) (linked : List Placed) (descriptor table : ℕ) (p : FlavorInput) →
     ImportsOf machine image linked descriptor table p.flavor (dll_names_in p) (exports_chosen p) → InputImports machine image linked descriptor table p
@@ -97,7 +92,7 @@ same_imports machine image linked descriptor table s parsed held imports =
     from_parts machine image linked descriptor table (input_parsed parsed s)
     (subst (λ (es : List ExportView). ImportsOf machine image linked descriptor table s.flavor (names_for s.flavor parsed) es) exports_same
     (subst (λ (names : NamesOfDll). ImportsOf machine image linked descriptor table s.flavor names (chosen_exports s.source.library.definition s.source.chosen)) (grind arith)
-    (to_parts machine image linked descriptor table (input_of s) imports)))
+    (record { top = imports.top; loads = imports.loads; table_located = imports.table_located; entries = imports.entries; gets = imports.gets })))
 
 text_links : (machine : MachineType) (image : List Range) (linked : List Placed) (descriptor table : ℕ) (s : FlavorSource) → IsFlavorSource machine s →
     InputImports machine image linked descriptor table (input_of s) → FlavorTextLinks machine image linked descriptor table s
@@ -119,8 +114,4 @@ text_links machine image linked descriptor table s is imports =
 pub texts_link : (machine : MachineType) (ending : Ending) (bases : Bases) (sources : List FlavorSource) (objects : List Object) → AllByRecursion (IsFlavorSource machine) sources →
     IsProgramOf machine ending bases (map input_of sources) objects → FlavorTextsLink machine ending bases sources objects
 texts_link machine ending bases sources objects are program =
-    let among = program_links machine ending bases (map input_of sources) objects (sources_made machine sources are) program in
-    record {
-      among = among;
-      imports = λ i s is. grind (arith, text_links, all_at, slice_get-map);
-    }
+    grind (arith, program_links machine ending bases (map input_of sources) objects (sources_made machine sources are) program, text_links, all_at, slice_get-map)

@@ -1,6 +1,6 @@
 -- Parts of instructions, and pages at two bases that differ by whole ones.
-use Rattle.std.proofs.Common.{◌≡◌, ℕ, suc, ◌+◌, ◌/◌, ◌%◌, ◌^◌, List, [], ◌∷◌, ◌++◌, length, Some, refl, sym, subst, arith, ◌≤◌, ap, ◌∙◌, inr, zero, ◌<◌, Bool, true, false, take, drop, None, inl, ◌*◌, map, Option}
-use Rattle.implib.specs.declared.machine.MachineType.TheVariants.{I386, ARMNT, AMD64, ARM64}
+use Rattle.std.proofs.Common.{◌≡◌, ℕ, suc, ◌+◌, ◌%◌, List, [], ◌∷◌, ◌++◌, length, Some, refl, sym, subst, arith, ◌≤◌, ap, ◌∙◌, inr, zero, ◌<◌, Bool, true, false, take, drop, None, inl, ◌*◌, map, Option}
+use Rattle.implib.specs.declared.machine.MachineType.TheVariants.{I386, ARM64}
 use Rattle.implib.specs.Link.Image.{Range, byte_at}
 use Rattle.implib.specs.Link.Load.{BytesAt, number_in}
 use Rattle.implib_link.specs.Stub.{jump_reads, page, adrp_immediate, ldr_immediate, plus_signed, with_adrp, with_bits, word_at}
@@ -9,14 +9,13 @@ use Rattle.implib.specs.declared.coff.object.Relocation.{Relocation}
 use Rattle.implib.specs.declared.machine.MachineType.{MachineType}
 use Rattle.implib.specs.Link.Placement.{Placed}
 use Rattle.implib.proofs.Link.Ranges.{Among}
-use Rattle.implib_link.specs.Gnu.Fields.{LinkedCode, arm64_addr64, field_width, i386_rel32, FieldHolds, MeetsAlone, meets, HasInstructions, IsAside, moved_by, placed_code, Names, PairArrives, absolute_width, covers, moved_number, places_at}
+use Rattle.implib_link.specs.Gnu.Fields.{LinkedCode, field_width, i386_rel32, FieldHolds, MeetsAlone, meets, HasInstructions, IsAside, moved_by, placed_code, Names, PairArrives, absolute_width, covers, moved_number, places_at}
 use Rattle.implib_link.specs.Gnu.Moves.{ArePaged}
 use Rattle.implib_link.proofs.Gnu.Places.{covered_bounds, narrow}
 use Rattle.implib_link.proofs.Search.Lists.{passes as among_filter, among_filter as filter_among, any_of}
-use Rattle.std.specs.Prelude.{◌==◌, if◌then◌else◌, cond, slice_get}
+use Rattle.std.specs.Prelude.{◌==◌, if◌then◌else◌, slice_get}
 use Rattle.std.proofs.lemmas.Bool.{eqb-true}
-use Rattle.implib.specs.Formats.Constants.{amd64_rel32, i386_dir32, arm64_pagebase_rel21, arm64_pageoffset_12l}
-use Rattle.implib.specs.Formats.Bytes.{u32_bytes}
+use Rattle.implib.specs.Formats.Constants.{i386_dir32, arm64_pagebase_rel21, arm64_pageoffset_12l}
 use Rattle.std.proofs.lemmas.List.{append-nil, drop_at, length-append}
 use Rattle.std.proofs.lemmas.List.Elements.{filter-append}
 use Rattle.std.proofs.lemmas.List.Folds.{list_any-append}
@@ -36,12 +35,8 @@ pub record Four (bytes : List ℕ) : Type 0 where
   pub is : bytes ≡ a ∷ b ∷ c ∷ d ∷ []
 
 pub four_of : (bytes : List ℕ) → length bytes ≡ 4 → Four bytes
-four_of [] four = absurd (omega arith)
-four_of (a ∷ []) four = absurd (omega arith)
-four_of (a ∷ b ∷ []) four = absurd (omega arith)
-four_of (a ∷ b ∷ c ∷ []) four = absurd (omega arith)
 four_of (a ∷ b ∷ c ∷ d ∷ []) four = record { a = a; b = b; c = c; d = d; is = refl }
-four_of (a ∷ b ∷ c ∷ d ∷ e ∷ rest) four = absurd (omega arith)
+four_of bytes four = cc
 
 pub jump_field : (address : ℕ) (field : List ℕ) → length field ≡ 4 → jump_reads I386 address (0xFF ∷ 0x25 ∷ (field ++ 0x90 ∷ 0x90 ∷ [])) ≡ Some (number_in field)
 jump_field address field four = let f = four_of field four in subst (λ xs. jump_reads I386 address (0xFF ∷ 0x25 ∷ (xs ++ 0x90 ∷ 0x90 ∷ [])) ≡ Some (number_in xs)) (sym f.is) refl
@@ -78,9 +73,8 @@ located_from memory (x ∷ bytes) a each =
 
 pub located_each : (memory : List Range) (bytes : List ℕ) (a i b : ℕ) → BytesAt memory a bytes → slice_get bytes i ≡ Some b → byte_at memory (a + i) ≡ Some b
 unfolding BytesAt
-located_each memory [] a i b located is = cc
-located_each memory (x ∷ bytes) a zero b located is = grind arith
 located_each memory (x ∷ bytes) a (suc i) b located is = grind (arith, located_each memory bytes (a + 1) i b located.1 is)
+located_each memory bytes a i b located is = grind arith
 
 -- Which relocations meet bytes.
 
@@ -106,10 +100,7 @@ meets_from machine offset count r low high = grind arith
 -- what is alone in a window is alone in a part of it that it meets
 pub alone_within : (machine : MachineType) (rs : List Relocation) (offset count inner size : ℕ) (r : Relocation) → MeetsAlone machine rs offset count r → offset ≤ inner → inner + size ≤ offset + count →
     meets machine inner size r ≡ true → MeetsAlone machine rs inner size r
-alone_within machine rs offset count inner size r alone from to here =
-    filter_twice (meets machine offset count) (meets machine inner size) rs (grind (arith, meets_bounds, meets_from))
-    ∙ ap (filter (meets machine inner size)) alone
-    ∙ ap (λ b. cond b (r ∷ []) []) here
+alone_within machine rs offset count inner size r alone from to here = cc (filter_twice (meets machine offset count) (meets machine inner size) rs (grind (arith, meets_bounds, meets_from)))
 
 -- a relocation that meets a byte
 pub meeting : (machine : MachineType) (k : ℕ) (rs : List Relocation) → list_any (meets machine k 1) rs ≡ true → (s : Relocation) × (Among s rs × (meets machine k 1 s ≡ true))
@@ -134,45 +125,21 @@ whole_width machine type width is = grind (arith, one_absolute)
 -- What fields hold at another base: a field that stores an address whole has the difference added, every other one is
 -- as it was.
 
-offset_moves : (from to target more : ℕ) → from % 4096 ≡ to % 4096 → (from + target + more) % 4096 / 8 ≡ (to + target + more) % 4096 / 8
-offset_moves from to target more paged = let same : (from + target + more) % 4096 ≡ (to + target + more) % 4096 = omega arith in ap (λ n. n / 8) same
-
 not_i386 : (type width : ℕ) → absolute_width I386 type ≡ Some width → type ≡ i386_rel32 → ⊥
 not_i386 type width is other = let own : type ≡ i386_dir32 = (one_absolute (type == i386_dir32) type width refl is).0 in omega arith
 
-not_amd64 : (type width further : ℕ) → absolute_width AMD64 type ≡ Some width → type ≡ amd64_rel32 + further → ⊥
-not_amd64 type width further is other = grind arith
-
-not_arm64 : (type width other : ℕ) → absolute_width ARM64 type ≡ Some width → type ≡ other → 1 < other → other < 14 → ⊥
-not_arm64 type width other is same low high = grind arith
-
 pub holds_moved : (machine : MachineType) (type width from to position target : ℕ) (old new : ℕ → ℕ) → absolute_width machine type ≡ Some width → FieldHolds machine type from position target old new →
     FieldHolds machine type to position target old (λ w. moved_number w from to (new w))
-holds_moved I386 type width from to position target old new is holds = grind (arith, is, not_i386)
-holds_moved ARMNT type width from to position target old new is holds = tt
-holds_moved AMD64 type width from to position target old new is holds = grind (arith, is, not_amd64)
-holds_moved ARM64 type width from to position target old new is holds = grind (arith, is, not_arm64)
+holds_moved machine type width from to position target old new is holds = grind (arith, not_i386)
 
 stored : (machine : MachineType) (type own width : ℕ) → absolute_width machine own ≡ Some width → type ≡ own → absolute_width machine type ≡ None → ⊥
 stored machine type own width whole is none = let same : Some width ≡ None = sym whole ∙ subst (λ t. absolute_width machine t ≡ None) is none in cc
 
 pub holds_steady : (machine : MachineType) (type from to position target : ℕ) (old new : ℕ → ℕ) → absolute_width machine type ≡ None → ArePaged machine from to →
     FieldHolds machine type from position target old new → FieldHolds machine type to position target old new
-holds_steady I386 type from to position target old new none paged holds = grind (arith, stored)
-holds_steady ARMNT type from to position target old new none paged holds = tt
-holds_steady AMD64 type from to position target old new none paged holds = grind (arith, stored)
-holds_steady ARM64 type from to position target old new none paged holds = record {
-  addr64 = λ addr. absurd (stored ARM64 type arm64_addr64 8 refl addr none);
-  branch = holds.branch;
-  page_of = λ is. ((holds.page_of is).0, (holds.page_of is).1 ∙ (grind arith));
-  offset_of = λ is eight. ((holds.offset_of is eight).0, (holds.offset_of is eight).1 ∙ offset_moves from to target (ldr_immediate (old 4)) paged);
-}
+holds_steady machine type from to position target old new none paged holds = grind (arith, stored)
 
 -- What the relocated stubs read.
-
-pub number-u32 : (n : ℕ) → number_in (u32_bytes n) ≡ n % 2 ^ 32
-unfolding u32_bytes
-number-u32 n = omega arith
 
 -- ARM64: `adrp` has the entry's page relative to its own, `ldr` the entry's offset in its page.
 
@@ -253,17 +220,7 @@ pub pair_read : (reads : ℕ → List ℕ → Option ℕ) (page_code load_code :
     (image_base : ℕ) (linked : List Placed) (memory : List Range) (address old_adrp old_load : ℕ) (name bytes : List ℕ) → with_adrp 0 old_adrp ≡ page_code → with_bits 10 12 0 old_load ≡ load_code →
     PairArrives image_base linked memory address (address + 4) old_adrp old_load name bytes → BytesAt memory (address + 8) behind → PairRead reads image_base memory address behind bytes
 pair_read reads page_code load_code behind rule image_base linked memory address old_adrp old_load name bytes is_adrp is_load x there =
-    let adrp : List ℕ = x.adrp_there.bytes in
-    let load : List ℕ = x.load_there.bytes in
-    record {
-      code = adrp ++ (load ++ behind);
-      there = joined memory adrp (load ++ behind) address x.adrp_there.located
-          (joined memory load behind (address + length adrp) (subst (λ a. BytesAt memory a load) (omega arith) x.load_there.located) (subst (λ a. BytesAt memory a behind) (omega arith) there));
-      whole = omega (arith, length-append adrp (load ++ behind), length-append load behind);
-      entry = x.entry;
-      leads = grind arith;
-      located = x.located;
-    }
+    grind (arith, joined, length-append x.adrp_there.bytes (x.load_there.bytes ++ behind), length-append x.load_there.bytes behind)
 
 -- Pages and offsets by any registers.
 

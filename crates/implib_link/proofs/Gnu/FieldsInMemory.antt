@@ -41,9 +41,6 @@ module _ (machine : MachineType) (image_base : ℕ) (image : List Range) (linked
       byte_at (image ++ ranges_of_codes codes) (c.position + k) ≡ Some b
   linked_byte from beside c k b m is = grind (arith, among_back (range_of_code c) image (ranges_of_codes codes) (among_map range_of_code c codes m), among_map range_of_code c codes m, located_each, range_located, beside)
 
-  code_size : (from : ℕ) → AreLinkedBeside machine from image linked codes targets → (c : LinkedCode) → Among c codes → length c.bytes ≡ length c.code.bytes
-  code_size from beside c m = (all_among (λ (x : LinkedCode). IsRelocated machine from (targets x) x.position x.code x.bytes) c codes m beside.relocated).size
-
   pub linked_rests : AreLinkedBeside machine image_base image linked codes targets → Rests machine image_base image linked codes targets (image ++ ranges_of_codes codes)
   unfolding Keeps
   linked_rests beside = record {
@@ -59,7 +56,7 @@ module _ (machine : MachineType) (image_base : ℕ) (image : List Range) (linked
     range_covers : (a : ℕ) (d : LinkedCode) → Among d codes → list_any (covers a) (places_of_code machine d) ≡ true → is_in a (range_of_code d) ≡ true
     range_covers a d m covered =
         let inside = all_among (λ (x : LinkedCode). AllByRecursion (λ (p : Place). p.address + p.width ≤ x.position + length x.code.bytes) (places_of_code machine x)) d codes m moved.within in
-        grind (arith, covering a d.position (d.position + length d.code.bytes) (places_of_code machine d) (places_from machine d.position d.code.relocations) inside covered, code_size, is_in_from)
+        grind (arith, covering a d.position (d.position + length d.code.bytes) (places_of_code machine d) (places_from machine d.position d.code.relocations) inside covered, is_in_from, all_among)
 
     uncovered : (a b : ℕ) → byte_at (image ++ ranges_of_codes codes) a ≡ Some b → ((d : LinkedCode) → Among d codes → is_in a (range_of_code d) ≡ true → list_any (covers a) (places_of_code machine d) ≡ false) →
         list_any (covers a) places ≡ false
@@ -106,10 +103,7 @@ pub record Settles (machine : MachineType) (image_base : ℕ) (image : List Rang
 pub settled_in_tables : (machine : MachineType) (image_base : ℕ) (image : List Range) (linked : List Placed) (codes : List LinkedCode) (targets : LinkedCode → ℕ → ℕ) (memory : List Range)
     (at : Rests machine image_base image linked codes targets memory) (c : LinkedCode) (symbol address : ℕ) (entry : Entry) → Contains codes c → slice_get c.from.object.entries symbol ≡ Some entry →
     symbol_address linked c.from entry ≡ Some address → Settles machine image_base image linked codes targets memory at c symbol address
-settled_in_tables machine image_base image linked codes targets memory at c symbol address entry held found placed = record {
-  taken = at.beside.resolved.tables c symbol address entry held found placed;
-  whole = λ r width n same m is number. at.whole c r width address n entry held m is (subst (λ k. slice_get c.from.object.entries k ≡ Some entry) (sym same) found) placed number;
-}
+settled_in_tables machine image_base image linked codes targets memory at c symbol address entry held found placed = grind arith
 
 -- at the base that code was linked for, of any
 pub settled_linked : (machine : MachineType) (image_base : ℕ) (image : List Range) (linked : List Placed) (codes : List LinkedCode) (targets : LinkedCode → ℕ → ℕ)

@@ -7,7 +7,7 @@ use Rattle.std.proofs.lemmas.Bool.{cases_Bool, false_from_ne_true}
 use Rattle.std.proofs.lemmas.List.{append_assoc, length-append, length-replicate}
 use Rattle.implib.specs.Import.{Ask, Name, Ordinal, expected_ask}
 use Rattle.implib.specs.Link.Image.{Range, byte_at, is_in, range_end, AllApart, Contribution, IsAdmissible, contributions, filled, image_of, range_of, relocated, with_address}
-use Rattle.implib.specs.Link.Load.{BytesAt, NumberAt, TableAt, TextAt, ThunkAsksFor, ThunkAt, number_in, WholeTableAt}
+use Rattle.implib.specs.Link.Load.{BytesAt, NumberAt, TableAt, TextAt, ThunkAsksFor, ThunkAt, WholeTableAt}
 use Rattle.implib.specs.Members.ImportTables.{zeros, relocation, thunk_width}
 use Rattle.implib.proofs.Link.Linked.{all_append, block_definitions, contribution_located, ends_of_block, same_order}
 use Rattle.implib.proofs.Link.Loading.{number_once, text_led_to, text_once}
@@ -157,14 +157,7 @@ module _ (beside : List Range) (low high width : ℕ) (avoids : Avoids beside lo
         table + width * thunks_asked (length imports) imports ≤ high → DirectoryBeside beside width descriptor table imports →
         WritesAsItGoes width gives descriptor memory imports (all_filled width gives table imports memory)
     unfolding DirectoryBeside WritesAsItGoes all_filled
-    can_run [] descriptor table memory keeps from to directory =
-        let stops : StopsAt beside descriptor = null_stops descriptor directory in (
-          elim stops [
-            | inl none ↦ inl (number_kept beside memory keeps 4 (descriptor + 12) 0 none)
-            | inr none ↦ inr (number_kept beside memory keeps 4 (descriptor + 16) 0 none)
-          ],
-          refl,
-        )
+    can_run [] descriptor table memory keeps from to directory = grind (arith, null_stops, number_kept)
     can_run (i ∷ imports) descriptor table memory keeps from to (own, others) =
         let before = before_next table width (length i.asks) in (
           table_filled width table (gives i.dll) i.asks memory,
@@ -224,8 +217,7 @@ module _ (beside image : List Range) (keeps : Keeps beside image) (width : ℕ) 
   alike_by : (imports : List Imported) (descriptor table : ℕ) (written : List Range) → DirectoryBeside beside width descriptor table imports → Writes image width gives descriptor imports written →
       WrittenAlike width gives imports table written
   unfolding DirectoryBeside Writes all_filled
-  alike_by [] descriptor table written directory writes =
-      subst (WrittenAlike width gives [] table) (sym writes) (record { within = tt; alike = λ memory a. refl })
+  alike_by [] descriptor table written directory writes = grind arith
   alike_by (i ∷ imports) descriptor table written (own, others) (begin, (field, (behind, (is, later)))) =
       let same : begin ≡ table = number_once image 4 (descriptor + 16) begin table field (number_kept beside image keeps 4 (descriptor + 16) table own.addresses_field) in
       let next : ℕ = table + width * (length i.asks + 1) in
@@ -236,12 +228,12 @@ module _ (beside image : List Range) (keeps : Keeps beside image) (width : ℕ) 
       let within : AllByRecursion (λ x. (next ≤ x.start) × (range_end x ≤ high)) behind = subst (λ h. AllByRecursion (λ x. (next ≤ x.start) × (range_end x ≤ h)) behind) sum rest.within in
       subst (WrittenAlike width gives (i ∷ imports) table) (sym (is ∙ ap (λ n. entries_written width n (gives i.dll) i.asks ++ behind) same)) (record {
         within = grind (arith, entries_within width (gives i.dll) (wide i.dll) i.asks table table high (omega arith) (omega arith), within_by table next high high behind (omega arith) (omega arith) within, all_append, within);
-        alike = λ memory a.
-            rest.alike (table_filled width table (gives i.dll) i.asks memory) a
-            ∙ same_behind behind (table_filled width table (gives i.dll) i.asks memory) (entries ++ memory) a (table_alike width (gives i.dll) (wide i.dll) i.asks table memory a)
-            ∙ all_swapped table next high entries behind memory a
-            (entries_within width (gives i.dll) (wide i.dll) i.asks table table next (omega arith) (omega arith)) within
-            ∙ ap (λ rs. byte_at rs a) (sym (append_assoc entries behind memory));
+        alike = λ memory a. grind (
+          arith,
+          same_behind behind (table_filled width table (gives i.dll) i.asks memory) (entries ++ memory) a (table_alike width (gives i.dll) (wide i.dll) i.asks table memory a),
+          all_swapped table next high entries behind memory a (entries_within width (gives i.dll) (wide i.dll) i.asks table table next (omega arith) (omega arith)) within,
+          append_assoc entries behind memory,
+        );
       })
 
   pub left_alike : (imports : List Imported) (descriptor table : ℕ) (written memory : List Range) → DirectoryBeside beside width descriptor table imports → Writes image width gives descriptor imports written →
@@ -267,17 +259,13 @@ none_between xs ys zs r a apart m within =
     let found = any_among a ys any in
     not_between xs ys zs r found.0 a apart m found.1.0 within found.1.1)
 
-without : (xs ys zs : List Range) (a : ℕ) → list_any (is_in a) ys ≡ false → byte_at (xs ++ (ys ++ zs)) a ≡ byte_at (xs ++ zs) a
-without xs ys zs a none = same_behind xs (ys ++ zs) zs a (kept_outside ys zs a none)
-
 all_without : (P : Range → Type 0) (xs ys zs : List Range) → AllByRecursion P (xs ++ (ys ++ zs)) → AllByRecursion P (xs ++ zs)
 all_without P xs ys zs all = let parts = all_parts P xs (ys ++ zs) all in all_append P xs zs parts.0 (all_parts P ys zs parts.1).1
 
 -- a range of what is filled in, where it has an address
 range_around : (base : ℕ) (cs : List Contribution) (a : ℕ) → base ≤ a → a < base + length (filled base cs) → Among (record { start = base; bytes = filled base cs }) (range_of base cs)
 unfolding Among
-range_around base [] a from below = absurd (omega arith)
-range_around base (c ∷ cs) a from below = inl refl
+range_around base cs a from below = grind arith
 
 module _ (machine : MachineType) (b : Bases) (objects : List Object) (admissible : IsAdmissible machine b objects) where
   abbrev linked : List Placed
@@ -339,7 +327,7 @@ module _ (machine : MachineType) (b : Bases) (objects : List Object) (admissible
   moves r [] a held from below located = tt
   moves r (byte ∷ bytes) a held from below located =
       let none = none_between front (ranges Addresses) back r a apart (held a from (omega arith)) (is_in_from a r from (omega arith)) in (
-        sym (without front (ranges Addresses) back a none) ∙ subst (λ rs. byte_at rs a ≡ Some byte) image_is located.0,
+        sym (same_behind front ((ranges Addresses) ++ back) back a (kept_outside (ranges Addresses) back a none)) ∙ subst (λ rs. byte_at rs a ≡ Some byte) image_is located.0,
         moves r bytes (a + 1) held (omega arith) (omega arith) located.1,
       )
 
@@ -386,25 +374,19 @@ module _ (machine : MachineType) (b : Bases) (objects : List Object) (admissible
 -- tables of thunks, that of zeros at their end, and others before it
 pub zero_table : (machine : MachineType) (image : List Range) (a : ℕ) → BytesAt image a (zeros (thunk_width machine)) → StrictTableAt image (thunk_width machine) a []
 unfolding TableAt WholeTableAt
-zero_table machine image a located = record {
-  plain = record { bytes = zeros (thunk_width machine); located = located; count = length-replicate {A = ℕ} (thunk_width machine) 0; value = zeros_number machine };
-  whole = tt;
-}
+zero_table machine image a located = grind (arith, length-replicate, zeros_number)
 
 pub table_with : (image : List Range) (width a : ℕ) (ask : Ask) (asks : List Ask) → StrictThunkAt image width a ask → StrictTableAt image width (a + width) asks → StrictTableAt image width a (ask ∷ asks)
 unfolding TableAt WholeTableAt
 table_with image width a ask asks one others = record { plain = (one.plain, others.plain); whole = (one.whole, others.whole) }
 
-small_field : (n : ℕ) → n < 2 ^ 31 → number_in (u32_bytes ((0 + (n + 0)) % 2 ^ 32)) ≡ n
-unfolding u32_bytes
-small_field n small = omega arith
-
 field_at : (beside : List Range) (a n : ℕ) → n < 2 ^ 31 → BytesAt beside a (u32_bytes ((0 + (n + 0)) % 2 ^ 32)) → NumberAt beside 4 a n
+unfolding u32_bytes
 field_at beside a n small located = record {
   bytes = u32_bytes ((0 + (n + 0)) % 2 ^ 32);
   located = located;
   count = length-u32 ((0 + (n + 0)) % 2 ^ 32);
-  value = small_field n small;
+  value = omega arith;
 }
 
 -- where bytes are is neither 0 nor far
@@ -471,9 +453,7 @@ module _ (machine : MachineType) (dll : NamesOfDll) (linked : List Placed) where
   name_located image [] b rest even located =
       let others : List Contribution = contributions machine linked DllNames (placed_from (ends_of_tail machine dll b) rest) in
       let own : Contribution = record { address = next_multiple 4 b.dll_names; bytes = dll.text ++ 0 ∷ [] } in
-      let here : BytesAt image b.dll_names (filled b.dll_names (own ∷ others)) =
-      subst (λ ps. BytesAt image b.dll_names (filled b.dll_names (contributions machine linked DllNames ps))) (placed-tail machine dll b rest even) located in
-      contribution_located image b.dll_names own others (at_least 4 b.dll_names) here
+      grind (arith, placed-tail, contribution_located image b.dll_names own others (at_least 4 b.dll_names) (grind (arith, placed-tail)))
   name_located image (e ∷ es) b rest even located =
       let later : Bases = ends_of_export machine dll b e in
       let others : List Contribution = contributions machine linked DllNames (placed_from later (after_head machine dll es rest)) in
@@ -562,13 +542,7 @@ module _ (machine : MachineType) (dll : NamesOfDll) (es : List ExportView) (b : 
       let own : Contribution = record { address = b.descriptors; bytes = descriptor_linked machine dll linked b } in
       let parts = contribution_located beside b.descriptors own others (same_order b.descriptors)
       (subst (BytesAt beside b.descriptors) (ap (λ ps. filled b.descriptors (contributions machine linked Descriptors ps)) placed_is) located.descriptors) in
-      let behind : BytesAt beside later.descriptors (filled later.descriptors others) =
-      subst (λ n. BytesAt beside (b.descriptors + n) (filled (b.descriptors + n) others)) length-descriptor parts.1 in
-      let same : later.descriptors ≡ last.descriptors = descriptors_end machine dll later es in (
-        parts.0,
-        subst (λ n. BytesAt beside n (filled last.descriptors (contributions machine linked Descriptors (placed_from last rest)))) same
-            (subst (BytesAt beside later.descriptors) (descriptors_filled machine dll linked later es rest later_even) behind),
-      )
+      grind (arith, length-descriptor, descriptors_end machine dll later es, descriptors_filled machine dll linked later es rest later_even)
 
   pub rest_beside : LocatedBeside machine linked beside (ends_of_block machine dll b es) rest
   rest_beside = record {

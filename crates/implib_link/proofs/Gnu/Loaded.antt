@@ -1,9 +1,9 @@
 -- The memory of a loaded program: what was written, the image, and code beside it, which the loader leaves as it is.
-use Rattle.std.proofs.Common.{rules, ◌≡◌, ℕ, ◌+◌, ◌^◌, ◌<◌, ◌≤◌, true, false, List, [], ◌∷◌, ◌++◌, length, Some, refl, sym, subst, inl, inr, arith, ap, ◌∙◌, zero, suc, ◌*◌, ◌-◌, map}
-use Rattle.std.specs.Prelude.{nat_lt, slice_get, slice_index}
+use Rattle.std.proofs.Common.{rules, ◌≡◌, ℕ, ◌+◌, ◌^◌, ◌<◌, ◌≤◌, true, false, List, [], ◌∷◌, ◌++◌, length, Some, refl, sym, subst, inl, inr, arith, ◌∙◌, zero, suc, ◌*◌, map}
+use Rattle.std.specs.Prelude.{nat_lt, slice_get}
 use Rattle.std.specs.List.{AllByRecursion, list_any}
 use Rattle.std.proofs.lemmas.Bool.{cases_Bool, false_from_ne_true, ltb-false, ltb-true}
-use Rattle.implib.specs.Import.{Ask, Name, Ordinal}
+use Rattle.implib.specs.Import.{Ask}
 use Rattle.implib.specs.Link.Image.{AllApart, Range, byte_at, is_in, range_end}
 use Rattle.implib.specs.Link.Load.{BytesAt, TableAt, LoadsStrictly, NumberAt, TextAt, ThunkAsksFor, ThunkAt, WholeTableAt}
 use Rattle.implib.proofs.Link.Linked.{all_append}
@@ -15,7 +15,6 @@ use Rattle.implib.specs.Members.ImportTables.{zeros, thunk_width}
 use Rattle.std.proofs.Math.Nat.{mul-suc, mul-zero}
 use Rattle.std.proofs.lemmas.List.{append_assoc, get_or_at, length-append}
 use Rattle.implib.specs.declared.machine.MachineType.{MachineType}
-use Rattle.implib.specs.declared.machine.MachineType.TheVariants.{I386, ARMNT, AMD64, ARM64}
 
 -- a range is where an image has bytes
 abbrev pub Covers : List Range → Range → Type 0
@@ -97,21 +96,7 @@ null_stops image address null =
 pub directory_walk : (image : List Range) (width address : ℕ) (imports : List Imported) → DirectoryAt image width address imports → WalkFinds image width address imports
 unfolding DirectoryAt WalkFinds
 directory_walk image width address [] null = inl (null_stops image address null)
-directory_walk image width address (i ∷ imports) directory = (
-  record {
-    name = directory.0.plain.name;
-    name_field = directory.0.plain.name_field;
-    has_name = directory.0.has_name;
-    name_text = directory.0.plain.name_text;
-    addresses = directory.0.plain.addresses;
-    addresses_field = directory.0.plain.addresses_field;
-    has_addresses = directory.0.has_addresses;
-    table = directory.0.plain.lookups;
-    table_field = inl directory.0.plain.lookups_field;
-    thunks = directory.0.plain.lookup_table;
-  },
-  directory_walk image width (address + 20) imports directory.1,
-)
+directory_walk image width address (i ∷ imports) directory = grind (arith, directory_walk image width (address + 20) imports directory.1)
 
 pub nonzero : (n m : ℕ) → n ≡ m → 0 < n → m ≡ 0 → ⊥
 nonzero n m same above none = omega arith
@@ -119,10 +104,6 @@ nonzero n m same above none = omega arith
 pub same_imports : (first second : Imported) (firsts seconds : List Imported) → first.dll ≡ second.dll → first.asks ≡ second.asks → firsts ≡ seconds →
     first ∷ firsts ≡ second ∷ seconds
 same_imports first second firsts seconds dll asks others = grind arith
-
--- no walk goes on at the null descriptor, and none stops at another
-null_ends_once : (image : List Range) (width address : ℕ) (i : Imported) → BytesAt image address (zeros 20) → FindsBy image width address i → ⊥
-null_ends_once image width address i null step = grind (arith, nonzero step.name 0 (number_once image 4 (address + 12) step.name 0 step.name_field (null_stops image address null)) step.has_name refl)
 
 stops_once : (image : List Range) (width address : ℕ) (i : Imported) → LoadsStrictly image width address i.dll i.asks → StopsAt image address → ⊥
 stops_once image width address i loads (inl no_name) = grind (arith, nonzero loads.plain.name 0 (number_once image 4 (address + 12) loads.plain.name 0 loads.plain.name_field no_name) loads.has_name refl)
@@ -139,7 +120,8 @@ pub walk_once : (image : List Range) (width address : ℕ) (imports others : Lis
     DirectoryAt image width address imports → WalkFinds image width address others → imports ≡ others
 unfolding DirectoryAt WalkFinds
 walk_once image width address [] [] directory walk = refl
-walk_once image width address [] (j ∷ others) directory walk = absurd (null_ends_once image width address j directory walk.0)
+walk_once image width address [] (j ∷ others) directory walk = absurd
+    (grind (arith, nonzero walk.0.name 0 (number_once image 4 (address + 12) walk.0.name 0 walk.0.name_field (null_stops image address directory)) walk.0.has_name refl))
 walk_once image width address (i ∷ imports) [] directory walk = absurd (stops_once image width address i directory.0 walk)
 walk_once image width address (i ∷ imports) (j ∷ others) directory walk =
     search (rules, walk_once image width (address + 20) imports others directory.1 walk.1, same_asks image width address i j directory.0 walk.0, same_imports, text_led_to)
@@ -147,9 +129,6 @@ walk_once image width address (i ∷ imports) (j ∷ others) directory walk =
 -- A loader that reads an image walks its directory once, and writes what the law of loaded programs speaks of.
 
 module _ (image : List Range) (width : ℕ) (gives : List ℕ → Ask → List ℕ) where
-  one_more : (found : Imported) (others : List Imported) (n : ℕ) → length others ≡ n → length (found ∷ others) ≡ suc n
-  one_more found others n same = omega arith
-
   -- what is read is found by a walk, and what is written is what a loader of it writes
   found_by : (n address : ℕ) (written : List Range) → ReadsAndWrites image width gives n address written →
       (found : List Imported) × ((length found ≡ n) × (WalkFinds image width address found × Writes image width gives address found written))
@@ -157,7 +136,7 @@ module _ (image : List Range) (width : ℕ) (gives : List ℕ → Ask → List �
   found_by zero address written reads = ([], (refl, (reads.0, reads.1)))
   found_by (suc n) address written (found, (step, (behind, (is, reads)))) =
       let later = found_by n (address + 20) behind reads in
-      (found ∷ later.0, (one_more found later.0 n later.1.0, ((step, later.1.1.0), (step.addresses, (step.addresses_field, (behind, (is, later.1.1.1)))))))
+      (found ∷ later.0, ((omega arith), ((step, later.1.1.0), (step.addresses, (step.addresses_field, (behind, (is, later.1.1.1)))))))
 
   -- what a walk finds can be read and written
   walk_writes : (address : ℕ) (found : List Imported) → WalkFinds image width address found → (written : List Range) × ReadsAndWrites image width gives (length found) address written
@@ -184,12 +163,7 @@ front_from : (r : Range) (rs : List Range) (bytes front : List ℕ) (a : ℕ) �
 unfolding BytesAt
 front_from r rs [] front a is at = tt
 front_from r rs (b ∷ bytes) front a is at =
-    let long : length r.bytes ≡ length front + (length bytes + 1) = ap length is ∙ length-append front (b ∷ bytes) ∙ omega arith in
-    let position : a - r.start ≡ length front = omega arith in
-    let first : slice_index r.bytes (a - r.start) ≡ b = rw (position, is) (get_or_at front b bytes 0 (length front) refl) in (
-      rw (is_in_from a r (omega arith) (omega arith)) (ap Some first),
-      front_from r rs bytes (front ++ b ∷ []) (a + 1) (is ∙ sym (append_assoc front (b ∷ []) bytes)) (rw (length-append front (b ∷ [])) (omega arith)),
-    )
+    grind (arith, length-append, get_or_at, is_in_from, front_from r rs bytes (front ++ b ∷ []) (a + 1) (is ∙ sym (append_assoc front (b ∷ []) bytes)) (rw (length-append front (b ∷ [])) (omega arith)))
 
 front_located : (r : Range) (rs : List Range) → BytesAt (r ∷ rs) r.start r.bytes
 front_located r rs = front_from r rs r.bytes [] r.start refl (omega arith)
@@ -212,10 +186,7 @@ kept_outside (r ∷ written) ranges a none = grind (arith, kept_outside written 
 
 -- what is so of both widths of thunks
 pub by_width : (P : ℕ → Type 0) → P 4 → P 8 → (machine : MachineType) → P (thunk_width machine)
-by_width P narrow wide I386 = narrow
-by_width P narrow wide ARMNT = narrow
-by_width P narrow wide AMD64 = wide
-by_width P narrow wide ARM64 = wide
+by_width P narrow wide _ = grind arith
 
 pub plus_none : (n : ℕ) → n + 0 ≡ n
 plus_none n = omega arith
@@ -232,9 +203,7 @@ module _ (width : ℕ) where
   unfolding entries_written
   entry_located gives wide [] a ranges j ask is = cc
   entry_located gives wide (x ∷ asks) a ranges zero ask is =
-      let r : Range = record { start = a; bytes = gives x } in
-      subst (λ (y : Ask). BytesAt (r ∷ (entries_written width (a + width) gives asks ++ ranges)) (a + width * 0) (gives y)) (cc)
-      (subst (λ n. BytesAt (r ∷ (entries_written width (a + width) gives asks ++ ranges)) n (gives x)) (times_none a width) (front_located r (entries_written width (a + width) gives asks ++ ranges)))
+      grind (arith, times_none a width, front_located (record { start = a; bytes = gives x }) (entries_written width (a + width) gives asks ++ ranges))
   entry_located gives wide (x ∷ asks) a ranges (suc j) ask is =
       let r : Range = record { start = a; bytes = gives x } in
       subst (λ n. BytesAt (r ∷ (entries_written width (a + width) gives asks ++ ranges)) n (gives ask)) (times_next a width j)
@@ -246,8 +215,7 @@ module _ (width : ℕ) where
   behind_entries gives wide [] a ranges position bytes past located = located
   behind_entries gives wide (x ∷ asks) a ranges position bytes past located =
       let r : Range = record { start = a; bytes = gives x } in
-      behind_front r (entries_written width (a + width) gives asks ++ ranges) bytes position (omega arith)
-      (behind_entries gives wide asks (a + width) ranges position bytes (omega arith) located)
+      grind (arith, behind_front r (entries_written width (a + width) gives asks ++ ranges) bytes position (omega arith) (behind_entries gives wide asks (a + width) ranges position bytes (omega arith) located))
 
   pub entries_within : (gives : Ask → List ℕ) → ((ask : Ask) → length (gives ask) ≡ width) → (asks : List Ask) (a low high : ℕ) → low ≤ a → a + width * length asks ≤ high →
       AllByRecursion (λ r. (low ≤ r.start) × (range_end r ≤ high)) (entries_written width a gives asks)
@@ -287,13 +255,9 @@ module _ (image memory : List Range) (keeps : Keeps image memory) where
   pub text_kept : (a : ℕ) (text : List ℕ) → TextAt image a text → TextAt memory a text
   text_kept a text found = record { no_nul = found.no_nul; located = bytes_kept (text ++ 0 ∷ []) a found.located }
 
-  asks_kept : (width thunk : ℕ) (ask : Ask) → ThunkAsksFor image width thunk ask → ThunkAsksFor memory width thunk ask
-  unfolding ThunkAsksFor
-  asks_kept width thunk (Ordinal n) asks = asks
-  asks_kept width thunk (Name text hint) asks = (asks.0, number_kept 2 _ hint asks.1, text_kept _ text asks.2)
-
   pub thunk_kept : (width a : ℕ) (ask : Ask) → ThunkAt image width a ask → ThunkAt memory width a ask
-  thunk_kept width a ask found = record { thunk = found.thunk; located = number_kept width a found.thunk found.located; not_zero = found.not_zero; asks = asks_kept width found.thunk ask found.asks }
+  unfolding ThunkAsksFor
+  thunk_kept width a ask found = record { thunk = found.thunk; located = number_kept width a found.thunk found.located; not_zero = found.not_zero; asks = (grind (arith, number_kept, text_kept)) }
 
   pub table_kept : (width : ℕ) (asks : List Ask) (a : ℕ) → TableAt image width a asks → TableAt memory width a asks
   unfolding TableAt
@@ -303,10 +267,7 @@ module _ (image memory : List Range) (keeps : Keeps image memory) where
   whole_kept : (width : ℕ) (asks : List Ask) (a : ℕ) → WholeTableAt image width a asks → WholeTableAt memory width a asks
   unfolding WholeTableAt
   whole_kept width [] a found = tt
-  whole_kept width (ask ∷ asks) a found = (
-    record { thunk = found.0.thunk; located = number_kept width a found.0.thunk found.0.located; whole = found.0.whole },
-    whole_kept width asks (a + width) found.1,
-  )
+  whole_kept width (ask ∷ asks) a found = grind (arith, number_kept, whole_kept width asks (a + width) found.1)
 
   loads_kept : (width a : ℕ) (dll : List ℕ) (asks : List Ask) → LoadsStrictly image width a dll asks → LoadsStrictly memory width a dll asks
   loads_kept width a dll asks loads = record {
@@ -332,8 +293,7 @@ module _ (image memory : List Range) (keeps : Keeps image memory) where
   writes_back width gives [] a written directory writes = writes
   writes_back width gives (i ∷ imports) a written directory (table, (field, (behind, (is, later)))) =
       let own : ℕ = directory.0.plain.addresses in
-      let same : own ≡ table = number_once memory 4 (a + 16) own table (number_kept 4 (a + 16) own directory.0.plain.addresses_field) field in
-      (table, (subst (NumberAt image 4 (a + 16)) same directory.0.plain.addresses_field, (behind, (is, writes_back width gives imports (a + 20) behind directory.1 later))))
+      grind (arith, number_once memory 4 (a + 16) own table (number_kept 4 (a + 16) own directory.0.plain.addresses_field) field, writes_back width gives imports (a + 20) behind directory.1 later)
 
   pub memory_read : (width : ℕ) (gives : List ℕ → Ask → List ℕ) (n a : ℕ) (imports : List Imported) (written : List Range) → DirectoryAt image width a imports → ReadsAndWrites memory width gives n a written →
       (n ≡ length imports) × Writes image width gives a imports written

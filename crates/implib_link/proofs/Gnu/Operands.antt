@@ -1,8 +1,8 @@
 -- Fields against a name lead to its entry, whatever instruction holds them.
-use Rattle.std.proofs.Common.{◌≡◌, ℕ, ◌+◌, ◌-◌, ◌*◌, ◌/◌, ◌%◌, ◌^◌, ◌<◌, ◌≤◌, ◌⊎◌, false, List, [], ◌∷◌, ◌++◌, length, take, drop, None, Some, refl, ap, sym, ◌∙◌, subst, inl, inr, arith}
-use Rattle.std.specs.Prelude.{◌==◌, slice_get}
+use Rattle.std.proofs.Common.{rules, ◌≡◌, ℕ, ◌+◌, ◌-◌, ◌*◌, ◌/◌, ◌%◌, ◌^◌, ◌<◌, ◌≤◌, ◌⊎◌, false, List, [], ◌∷◌, ◌++◌, length, take, drop, None, Some, refl, ap, sym, ◌∙◌, subst, inl, inr, arith}
+use Rattle.std.specs.Prelude.{slice_get}
 use Rattle.std.specs.List.{AllByRecursion, Contains, list_any}
-use Rattle.std.proofs.lemmas.Bool.{false_from_ne_true, ne_eqb}
+use Rattle.std.proofs.lemmas.Bool.{false_from_ne_true}
 use Rattle.std.proofs.lemmas.List.{append_assoc, drop-drop, drop_at, length-append, length-drop, take-append-drop, take_at}
 use Rattle.std.proofs.lemmas.Option.{slice_get_within}
 use Rattle.implib.specs.declared.coff.object.Relocation.{Relocation}
@@ -17,8 +17,8 @@ use Rattle.implib.specs.Link.Resolution.{definitions_of}
 use Rattle.implib.specs.Members.ImportTables.{thunk_width}
 use Rattle.implib.proofs.Link.LinkedMembers.{among_contains}
 use Rattle.implib.proofs.Link.Ranges.{Among, all_among}
-use Rattle.implib_link.specs.Gnu.Fields.{CanBranch, field_width, DefinesIn, FieldHolds, LinkedCode, MeetsAlone, field_at, meets, AllLead, AllLeadTo, BranchArrives, HasBranch, HasInstruction, HasOffsetField, HasOperand, HasPageField, HasPointer, InstructionArrives, IsBranch, IsOperand, IsPointer, Names, OperandArrives, PairArrives, PointerArrives, operand_leads, BranchStays, StubAt, placed_code, DirectCallArrives, HasDirectCall, HasInstructions, arm64_branch26, direct_bytes, direct_leads, direct_relocations, i386_rel32, absolute_width, amd64_addr32, StubArrives}
-use Rattle.implib_link.specs.Stub.{adrp_immediate, bits_of, ldr_immediate, page, plus_signed, with_bits, jump_reads, with_adrp, word_at}
+use Rattle.implib_link.specs.Gnu.Fields.{CanBranch, field_width, DefinesIn, FieldHolds, LinkedCode, MeetsAlone, field_at, meets, AllLead, AllLeadTo, BranchArrives, HasBranch, HasInstruction, HasOffsetField, HasOperand, HasPageField, HasPointer, InstructionArrives, IsBranch, IsOperand, IsPointer, Names, OperandArrives, PairArrives, PointerArrives, operand_leads, BranchStays, StubAt, placed_code, DirectCallArrives, HasDirectCall, HasInstructions, arm64_branch26, direct_bytes, direct_leads, direct_relocations, i386_rel32, absolute_width, StubArrives}
+use Rattle.implib_link.specs.Stub.{adrp_immediate, bits_of, ldr_immediate, page, plus_signed, with_bits, jump_reads, with_adrp}
 use Rattle.implib_link.proofs.Gnu.CallReads.{CanReach}
 use Rattle.implib_link.proofs.Gnu.Fields.{alone_same, alone_within, get_drop, get_front, meeting, meets_bounds, meets_from, page_and_offset, sum_of_eights, ReadsPair, pair_read, one_met, own_any, own_code, own_met, own_names, read_word, joined, four_of, jump_field, own_inside}
 use Rattle.implib_link.proofs.Gnu.FieldsInMemory.{Rests, Settles, bytes_there, field_there, own_end, settled_in_tables, steady_there, part_there}
@@ -29,10 +29,6 @@ use Rattle.implib.specs.Members.Gnu.{stub_bytes, stub_relocations}
 
 -- Numbers relative to the end of an instruction.
 
-rel32_leads : (n old base position target after further : ℕ) → n ≡ (old + target + (2 ^ 32 - (position + 4 + further) % 2 ^ 32)) % 2 ^ 32 → (old + after) % 2 ^ 32 ≡ further →
-    position + (4 + after) ≤ 2 ^ 31 → target < 2 ^ 31 → plus_signed 32 1 n (base + position + 4 + after) ≡ base + target
-rel32_leads n old base position target after further is counts near small = grind arith
-
 pub dir32_is : (n old base target : ℕ) → n ≡ (old + (base + target)) % 2 ^ 32 → old ≡ 0 → base + 2 ^ 31 ≤ 2 ^ 32 → target < 2 ^ 31 → n ≡ base + target
 dir32_is n old base target is empty fits small = omega arith
 
@@ -41,9 +37,6 @@ addr64_is n old base target is empty fits small = omega arith
 
 -- Types of relative fields.
 
-not_addr32 : (type further : ℕ) → type ≡ amd64_rel32 + further → (type == amd64_addr32) ≡ false
-not_addr32 type further is = ne_eqb type amd64_addr32 (λ same. omega arith)
-
 pub operand_width : (machine : MachineType) (type after number : ℕ) → IsOperand machine type after number → field_width machine type ≡ 4
 operand_width machine type after number counts = grind arith
 
@@ -51,7 +44,7 @@ branch_width : (machine : MachineType) (type after number : ℕ) → IsBranch ma
 branch_width machine type after number counts = grind (arith, operand_width)
 
 branch_steady : (machine : MachineType) (type after number : ℕ) → IsBranch machine type after number → absolute_width machine type ≡ None
-branch_steady machine type after number counts = grind (arith, not_addr32)
+branch_steady machine type after number counts = grind arith
 
 pub pointer_width : (machine : MachineType) (type : ℕ) → IsPointer machine type → field_width machine type ≡ thunk_width machine
 pointer_width machine type stores = grind arith
@@ -60,7 +53,7 @@ pointer_width machine type stores = grind arith
 
 operand_by : (machine : MachineType) (type base position target after : ℕ) (old new : ℕ → ℕ) → IsOperand machine type after (old 4) → FieldHolds machine type base position target old new →
     CanReach machine base target → position + (4 + after) ≤ 2 ^ 31 → target < 2 ^ 31 → operand_leads machine (base + position) after (new 4) ≡ Some (base + target)
-operand_by machine type base position target after old new counts holds can near small = grind (arith, dir32_is, rel32_leads)
+operand_by machine type base position target after old new counts holds can near small = grind (arith, dir32_is)
 
 -- ARM64's page and offset.
 
@@ -111,15 +104,14 @@ module _ (machine : MachineType) (image_base : ℕ) (image : List Range) (linked
   -- and is, but for its distance, as it was
   pub branch_stays : (c d : LinkedCode) (offset after : ℕ) (name : List ℕ) (t : ObjectSymbol) → Contains codes c → HasBranch machine c offset after name → Contains codes d → DefinesIn d t → t.name ≡ name →
       CanBranch machine (c.position + offset) (d.position + t.value) → BranchStays machine (written ++ memory) (c.position + offset) (field_at c.code.bytes offset 4)
-  branch_stays c d offset after name t held has d_held defines named can =
-      let m : Among c codes = contains_among c codes held in
-      let found = steady_there machine image_base image linked codes targets memory at written covers_it c m offset has.type has.field.symbol has.field.alone has.field.inside
-      (branch_steady machine has.type after (field_at c.code.bytes offset 4) has.counts) in
-      record {
-        number = found.0 4;
-        there = subst (λ w. NumberAt (written ++ memory) w (c.position + offset) (found.0 w)) (branch_width machine has.type after (field_at c.code.bytes offset 4) has.counts) found.1.0;
-        same = grind (arith, where_defined c d name t held d_held defines named has.field.symbol has.field.names);
-      }
+  branch_stays c d offset after name t held has d_held defines named can = grind (
+    arith,
+    contains_among c codes held,
+    steady_there machine image_base image linked codes targets memory,
+    branch_steady machine has.type after (field_at c.code.bytes offset 4) has.counts,
+    branch_width machine has.type after (field_at c.code.bytes offset 4) has.counts,
+    where_defined c d name t held d_held defines named has.field.symbol has.field.names,
+  )
 
   -- what leads to the only definition of a name, where these bytes are
   module _ (name bytes : List ℕ) (entry : ℕ) (once : definitions_of name linked ≡ record { name = name; address = Some entry } ∷ []) (small : entry < 2 ^ 31) (can : CanReach machine image_base entry)
@@ -216,17 +208,11 @@ module _ (machine : MachineType) (image_base : ℕ) (image : List Range) (linked
 
       pointer_arrives : (c : LinkedCode) (offset : ℕ) → image_base + 2 ^ 31 ≤ 2 ^ 64 → Contains codes c → HasPointer machine c offset called → PointerArrives machine image_base linked (written ++ memory) (c.position + offset) name bytes
       pointer_arrives c offset fits held has =
-          record {
-            entry = entry;
-            own = once;
-            there = grind (arith, found_at c offset has.type has.field.symbol held has.field.alone has.field.inside (settled c has.field.symbol held has.field.names), pointer_width);
-            located = located;
-          }
+          grind (arith, found_at c offset has.type has.field.symbol held has.field.alone has.field.inside (settled c has.field.symbol held has.field.names), pointer_width)
 
       instruction_arrives : (c : LinkedCode) (offset : ℕ) (head tail : List ℕ) → Contains codes c → HasInstruction machine c offset head tail called →
           InstructionArrives machine image_base linked (written ++ memory) (c.position + offset) head tail name bytes
-      instruction_arrives c offset head tail held has =
-          instruction_at c offset head has.field tail has.type has.symbol held has.alone has.four has.code has.counts (settled c has.symbol held has.names)
+      instruction_arrives c offset head tail held has = search (rules, instruction_at)
 
 -- ARM64's two instructions, of fields against symbols that have the entry's address.
 pub pair_at : (image_base : ℕ) (image : List Range) (linked : List Placed) (codes : List LinkedCode) (targets : LinkedCode → ℕ → ℕ) (memory : List Range) (at : Rests ARM64 image_base image linked codes targets memory)
@@ -262,13 +248,11 @@ pairs_arrive : (machine : MachineType) (image_base : ℕ) (image : List Range) (
     ((c : LinkedCode) (symbol : ℕ) → Contains codes c → Names c.from symbol called → Settles machine image_base image linked codes targets memory at c symbol entry) → (c d : LinkedCode) (first second : ℕ) → machine ≡ ARM64 →
     Contains codes c → Contains codes d → HasPageField c first called → HasOffsetField d second called →
     PairArrives image_base linked (written ++ memory) (c.position + first) (d.position + second) (field_at c.code.bytes first 4) (field_at d.code.bytes second 4) name bytes
-pairs_arrive I386 image_base image linked codes targets memory at written covers_it name bytes entry once small can located called settled c d first second is c_held d_held page_field offset_field = cc
-pairs_arrive ARMNT image_base image linked codes targets memory at written covers_it name bytes entry once small can located called settled c d first second is c_held d_held page_field offset_field = absurd can
-pairs_arrive AMD64 image_base image linked codes targets memory at written covers_it name bytes entry once small can located called settled c d first second is c_held d_held page_field offset_field = cc
 pairs_arrive ARM64 image_base image linked codes targets memory at written covers_it name bytes entry once small can located called settled c d first second is c_held d_held page_field offset_field =
     pair_at image_base image linked codes targets memory at written covers_it name bytes entry once small can located c d first second page_field.field.symbol offset_field.field.symbol c_held d_held
     page_field.field.alone page_field.field.inside offset_field.field.alone offset_field.field.inside page_field.empty offset_field.eight offset_field.empty
     (settled c page_field.field.symbol c_held page_field.field.names) (settled d offset_field.field.symbol d_held offset_field.field.names)
+pairs_arrive machine image_base image linked codes targets memory at written covers_it name bytes entry once small can located called settled c d first second is c_held d_held page_field offset_field = cc
 
 -- fields against a name whose symbols have the entry's address, be it the entry's own name or another
 pub all_lead_to : (machine : MachineType) (image_base : ℕ) (image : List Range) (linked : List Placed) (codes : List LinkedCode) (targets : LinkedCode → ℕ → ℕ) (memory : List Range)
@@ -304,24 +288,14 @@ stub_part : (machine : MachineType) (image_base : ℕ) (image : List Range) (lin
     (relocations : List Relocation) (offset count : ℕ) (bytes : List ℕ) → take count (drop offset d.code.bytes) ≡ bytes → d.code.relocations ≡ relocations →
     list_any (meets machine offset count) relocations ≡ false → BytesAt (written ++ memory) (d.position + offset) bytes
 stub_part machine image_base image linked codes targets memory at written covers_it d held relocations offset count bytes is own none =
-    subst (BytesAt (written ++ memory) (d.position + offset)) is
-    (part_there machine image_base image linked codes targets memory at written covers_it d (contains_among d codes held) offset count
-    (subst (λ rs. list_any (meets machine offset count) rs ≡ false) (sym own) none))
+    grind (arith, part_there machine image_base image linked codes targets memory, contains_among d codes held)
 
 x86_jumps : (memory : List Range) (position : ℕ) (name bytes : List ℕ) (machine : MachineType) (image_base : ℕ) (linked : List Placed) → length (stub_bytes machine) ≡ 8 →
     (x : InstructionArrives machine image_base linked memory (position + 0) (0xFF ∷ 0x25 ∷ []) [] name bytes) → BytesAt memory (position + 6) (0x90 ∷ 0x90 ∷ []) →
     jump_reads machine (image_base + position) (0xFF ∷ 0x25 ∷ (x.field ++ 0x90 ∷ 0x90 ∷ [])) ≡ Some (image_base + x.entry) → StubArrives machine image_base memory position bytes
 x86_jumps memory position name bytes machine image_base linked size x tail reads =
     let long : length (0xFF ∷ 0x25 ∷ (x.field ++ [])) ≡ 6 = omega (arith, length-append x.field []) in
-    let whole : length (0xFF ∷ 0x25 ∷ (x.field ++ 0x90 ∷ 0x90 ∷ [])) ≡ 8 = omega (arith, length-append x.field (0x90 ∷ 0x90 ∷ [])) in
-    record {
-      code = 0xFF ∷ 0x25 ∷ (x.field ++ 0x90 ∷ 0x90 ∷ []);
-      there = grind (arith, four_of x.field x.four, joined);
-      whole = whole ∙ sym size;
-      entry = x.entry;
-      reads = reads;
-      located = x.located;
-    }
+    grind (arith, length-append x.field (0x90 ∷ 0x90 ∷ []), four_of x.field x.four, joined)
 
 pub stub_arrives : (machine : MachineType) (image_base : ℕ) (image : List Range) (linked : List Placed) (codes : List LinkedCode) (targets : LinkedCode → ℕ → ℕ) (memory : List Range)
     (at : Rests machine image_base image linked codes targets memory) (written : List Range) (covers_it : AllByRecursion (Covers image) written) (name bytes : List ℕ) (entry : ℕ) →
@@ -384,12 +358,7 @@ module _ (machine : MachineType) (c : LinkedCode) (offset type : ℕ) (name : Li
 
   call_branch : IsBranch machine type 0 0 → HasBranch machine c (offset + 1) 0 name
   call_branch counts =
-      record {
-        type = type;
-        field = record { symbol = has.index; alone = call_alone; inside = omega (arith, own_inside machine c offset name code rs has); names = own_names machine c offset name code rs has };
-        counts = subst (IsBranch machine type 0) (sym (ap (λ xs. number_in (take 4 xs)) (sym (drop-drop 1 offset c.code.bytes) ∙ ap (drop 1) (own_code machine c offset name code rs has)))) counts;
-        within = omega (arith, own_inside machine c offset name code rs has);
-      }
+      grind (arith, call_alone, own_inside machine c offset name code rs has, own_names machine c offset name code rs has, drop-drop 1 offset c.code.bytes, own_code machine c offset name code rs has)
 
   call_head : take 1 (drop offset c.code.bytes) ≡ 0xE8 ∷ []
   call_head = ap (take 1) (own_code machine c offset name code rs has)
@@ -402,14 +371,6 @@ module _ (machine : MachineType) (c : LinkedCode) (offset type : ℕ) (name : Li
 
 rel32_call : (address : ℕ) (field : List ℕ) → length field ≡ 4 → direct_leads AMD64 address (0xE8 ∷ field) ≡ Some (plus_signed 32 1 (number_in field) (address + 5))
 rel32_call address field four = grind (arith, four_of field four)
-
--- ARM64's.
-
-still_branch : (n : ℕ) → with_bits 0 26 0 n ≡ with_bits 0 26 0 0x9400_0000 → bits_of 26 6 n ≡ 0x25
-still_branch n same = omega arith
-
-arm64_leads : (address : ℕ) (xs : List ℕ) (n : ℕ) → word_at xs 0 ≡ n → bits_of 26 6 n ≡ 0x25 → direct_leads ARM64 address xs ≡ Some (plus_signed 26 4 (bits_of 0 26 n) address)
-arm64_leads address xs n is branch = rw (is, branch) refl
 
 x86_by_name : (machine : MachineType) (image_base : ℕ) (memory : List Range) (position offset stub : ℕ) (bytes : List ℕ) → length (direct_bytes machine) ≡ 5 →
     ((address : ℕ) (field : List ℕ) → length field ≡ 4 → direct_leads machine address (0xE8 ∷ field) ≡ Some (plus_signed 32 1 (number_in field) (address + 5))) →
@@ -449,9 +410,4 @@ direct_arrives ARM64 image_base image linked codes targets memory at written cov
     let end : offset + 4 ≤ length c.code.bytes = own_inside ARM64 c offset name code own has in
     let old : field_at c.code.bytes offset 4 ≡ 0x9400_0000 = ap (λ xs. number_in (take 4 xs)) (own_code ARM64 c offset name code own has) in
     let found = steady_there ARM64 image_base image linked codes targets memory at written covers_it c (contains_among c codes held) offset arm64_branch26 has.index alone (omega arith) refl in
-    let holds : FieldHolds ARM64 arm64_branch26 image_base (c.position + offset) stub (field_at c.code.bytes offset) found.0 = grind arith in
-    let both = holds.branch refl (ap (bits_of 0 26) old) can.2 can.3 in
-    let word : word_at found.1.0.bytes 0 ≡ found.0 4 = read_word found.1.0.bytes found.1.0.count ∙ found.1.0.value in
-    by_stub ARM64 image_base (written ++ memory) (c.position + offset) stub found.1.0.bytes bytes found.1.0.located found.1.0.count
-    (arm64_leads (image_base + (c.position + offset)) found.1.0.bytes (found.0 4) word (still_branch (found.0 4) (both.0 ∙ ap (with_bits 0 26 0) old))
-    ∙ ap Some (grind (arith, can.0, can.1, can.2, can.3, both.1))) arrives
+    grind (arith, read_word found.1.0.bytes found.1.0.count, by_stub)

@@ -95,15 +95,11 @@ placed_kept b (o ∷ objects) = grind (arith, placed_kept (ends_after b o.sectio
 pub defined_is_claimed : (s : ObjectSymbol) → is_defined_external s ≡ true → (is_shared s && not (is_reference s)) ≡ true
 defined_is_claimed s is = grind arith
 
-claims_fewer : (name : List ℕ) (s : ObjectSymbol) (entries : List Entry) → list_any (bytes_eq name) (filter_map claimed_name (ASymbol s ∷ entries)) ≡ false →
-    list_any (bytes_eq name) (filter_map claimed_name entries) ≡ false
-claims_fewer name s entries none = grind arith
-
 pub defines_none : (name : List ℕ) (section_addresses : List SectionAddress) (entries : List Entry) → list_any (bytes_eq name) (filter_map claimed_name entries) ≡ false →
     filter (λ (d : SymbolDefinition). bytes_eq name d.name) (filter_map (defined_by_entry section_addresses) entries) ≡ []
 defines_none name section_addresses [] none = refl
 defines_none name section_addresses (Auxiliary bytes ∷ entries) none = defines_none name section_addresses entries none
-defines_none name section_addresses (ASymbol s ∷ entries) none = grind (arith, defines_none name section_addresses entries, defines_none name section_addresses entries (claims_fewer name s entries none))
+defines_none name section_addresses (ASymbol s ∷ entries) none = grind (arith, defines_none name section_addresses entries, defines_none name section_addresses entries (grind arith))
 
 -- the definitions of a name that the others do not claim
 pub definitions_kept : (name : List ℕ) (b : Bases) (objects : List Object) →
@@ -121,9 +117,7 @@ definitions_kept name b (o ∷ objects) none =
           let none_left : AllByRecursion (λ o. list_any (bytes_eq name) (claimed_names o) ≡ false) (filter (λ o. not (has_tables o)) objects) = rw is at none in
           rw is (ap (λ others. filter (λ (d : SymbolDefinition). bytes_eq name d.name) own ++ others) (definitions_kept name (ends_after b o.sections) objects none_left)
           ∙ sym (filter-append (λ (d : SymbolDefinition). bytes_eq name d.name) own (definitions (placed_from (ends_after b o.sections) (filter has_tables objects)))))
-      | inr is ↦
-          let parts : (list_any (bytes_eq name) (claimed_names o) ≡ false) × AllByRecursion (λ o. list_any (bytes_eq name) (claimed_names o) ≡ false) (filter (λ o. not (has_tables o)) objects) = rw is at none in
-          rw (is, defines_none name (section_addresses_of b o.sections) o.entries parts.0, no_ends b o.sections is) (definitions_kept name b objects parts.1)
+      | inr is ↦ grind (arith, defines_none name (section_addresses_of b o.sections) o.entries (rw is at none).0, no_ends b o.sections is, definitions_kept name b objects (rw is at none).1)
     ]
 
 pub definitions_parts : (name : List ℕ) (front rest : List Placed) → definitions_of name (front ++ rest) ≡ definitions_of name front ++ definitions_of name rest

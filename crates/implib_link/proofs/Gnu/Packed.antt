@@ -1,5 +1,5 @@
 -- Relocations leave the lengths of sections as they are.
-use Rattle.std.proofs.Common.{◌≡◌, ℕ, ◌+◌, ◌-◌, ◌%◌, ◌^◌, ◌≤◌, List, [], ◌∷◌, ◌++◌, length, map, ◌∙◌, inl, inr, arith, ◌<◌, true, false, Option, Some, None, refl, ap, sym, subst}
+use Rattle.std.proofs.Common.{◌≡◌, ℕ, ◌+◌, ◌%◌, ◌^◌, ◌≤◌, List, [], ◌∷◌, ◌++◌, length, map, ◌∙◌, inl, inr, arith, ◌<◌, true, false, Option, Some, None, refl, ap, sym, subst}
 use Rattle.std.specs.List.{AllByRecursion, filter, list_any}
 use Rattle.std.proofs.lemmas.Bool.{cases_Bool}
 use Rattle.std.proofs.lemmas.List.{length-append, length-drop, length-take-le, append_assoc, length-replicate}
@@ -9,7 +9,7 @@ use Rattle.implib.specs.Formats.Bytes.{u32_bytes}
 use Rattle.implib.specs.Definition.{ExportView}
 use Rattle.implib.specs.Members.Gnu.{export_object, head_object, relocations_of_stub, relocations_of_thunk, stub, tail_object, thunk}
 use Rattle.implib.specs.Link.Image.{relocated, with_address, AllApart, AreApart, Contribution, IsAdmissible, IsBase, Range, contribution_at, contributions, contributions_in, contributions_of, filled, image_of, range_end, range_of}
-use Rattle.implib.specs.Members.ImportTables.{thunk_width, zeros}
+use Rattle.implib.specs.Members.ImportTables.{thunk_width}
 use Rattle.implib.specs.Formats.Object.{Object, ObjectSection}
 use Rattle.implib.specs.Link.Placement.{Placed, Addresses, Bases, Descriptors, DirectoryEnds, DllNames, Group, HintNames, Lookups, alignment, base_of, end_after, ends_after, group_named, next_multiple, address_after, section_address_of, placed_from, section_addresses_of, same_group}
 use Rattle.implib.specs.Link.Resolution.{target_address}
@@ -31,31 +31,26 @@ AreWithin size relocations = AllByRecursion (λ r. r.offset + 4 ≤ size) reloca
 abbrev pub IsSized : Object → Type 0
 IsSized o = AllByRecursion (λ s. AreWithin (length s.bytes) s.relocations) o.sections
 
-length-with_address : (bytes : List ℕ) (offset address : ℕ) → offset + 4 ≤ length bytes → length (with_address bytes offset address) ≡ length bytes
-unfolding with_address u32_bytes
-length-with_address bytes offset address within = grind (arith, length-take-le, length-drop, length-append)
-
 pub length-relocated : (machine : MachineType) (linked : List Placed) (p : Placed) (relocations : List Relocation) (bytes : List ℕ) (size : ℕ) →
     AreWithin size relocations → length bytes ≡ size → length (relocated machine linked p relocations bytes) ≡ size
+unfolding with_address u32_bytes
 length-relocated machine linked p [] bytes size within long = long
 length-relocated machine linked p (r ∷ relocations) bytes size within long =
-    grind (arith, length-relocated machine linked p relocations (with_address bytes r.offset (target_address linked p r.symbol)) size within.1 (length-with_address bytes r.offset (target_address linked p r.symbol) (omega arith) ∙ long), length-relocated machine linked p relocations bytes size within.1 long)
+    grind (
+      arith,
+      length-relocated machine linked p relocations (with_address bytes r.offset (target_address linked p r.symbol)) size within.1
+          ((grind (arith, length-take-le, length-drop, length-append)) ∙ long),
+      length-relocated machine linked p relocations bytes size within.1 long,
+    )
 
 -- The members' objects are sized.
 
 pub thunk_size : (machine : MachineType) → 4 ≤ thunk_width machine
 thunk_size machine = by_width (λ w. 4 ≤ w) (omega arith) (omega arith) machine
 
-hint_within : (machine : MachineType) (e : ExportView) (size : ℕ) → 4 ≤ size → AreWithin size (relocations_of_thunk machine e)
-unfolding relocations_of_thunk
-hint_within machine e size long = elim (cases_Bool e.no_name) [ inl is ↦ rw is tt | inr is ↦ rw is (omega arith, tt) ]
-
 thunk_within : (machine : MachineType) (e : ExportView) → AreWithin (length (thunk machine e)) (relocations_of_thunk machine e)
-thunk_within machine e = grind (arith, length-thunk, thunk_size, hint_within)
-
-stub_within : (machine : MachineType) (e : ExportView) → AreWithin (length (stub machine e)) (relocations_of_stub machine e)
-unfolding relocations_of_stub stub
-stub_within machine e = grind (arith, cases_Bool)
+unfolding relocations_of_thunk
+thunk_within machine e = grind (arith, length-thunk, thunk_size)
 
 pub head_sized : (machine : MachineType) (dll : NamesOfDll) → IsSized (head machine dll)
 unfolding head_object
@@ -66,8 +61,8 @@ unfolding tail_object
 tail_sized machine dll = (tt, (tt, (tt, (tt, (tt, (tt, tt))))))
 
 pub export_sized : (machine : MachineType) (dll : NamesOfDll) (e : ExportView) → IsSized (export machine dll e)
-unfolding export_object
-export_sized machine dll e = (stub_within machine e, (tt, (tt, ((omega arith, tt), (thunk_within machine e, (thunk_within machine e, (tt, tt)))))))
+unfolding export_object relocations_of_stub stub
+export_sized machine dll e = (grind (arith, cases_Bool), (tt, (tt, ((omega arith, tt), (thunk_within machine e, (thunk_within machine e, (tt, tt)))))))
 
 pub exports_sized : (machine : MachineType) (dll : NamesOfDll) (es : List ExportView) (rest : List Object) → AllByRecursion IsSized rest → AllByRecursion IsSized (map (export machine dll) es ++ rest)
 exports_sized machine dll [] rest all = all
@@ -107,20 +102,11 @@ fills_none base = record { ends = omega arith; behind = λ rest. refl }
 
 fills_one : (base end : ℕ) (c : Contribution) → base ≤ c.address → c.address + length c.bytes ≡ end → Fills base (c ∷ []) end
 unfolding span
-fills_one base end c low is =
-    let padding : List ℕ = zeros (c.address - base) in
-    record {
-      ends = omega (arith, length-replicate {A = ℕ} (c.address - base) 0, length-append padding (c.bytes ++ []), length-append c.bytes []);
-      behind = λ rest. grind (arith, length-replicate {A = ℕ} (c.address - base) 0, length-append padding (c.bytes ++ []), length-append c.bytes [], append_assoc);
-    }
+fills_one base end c low is = grind (arith, length-replicate, length-append, append_assoc)
 
 fills_both : (base middle end : ℕ) (front back : List Contribution) → Fills base front middle → Fills middle back end → Fills base (front ++ back) end
 unfolding span
-fills_both base middle end front back one two =
-    record {
-      ends = ap (λ bytes. base + length bytes) (one.behind back) ∙ omega (arith, length-append (filled base front) (filled middle back));
-      behind = grind (arith, length-append (filled base front) (filled middle back), append_assoc);
-    }
+fills_both base middle end front back one two = grind (arith, length-append, append_assoc)
 
 module _ (machine : MachineType) (linked : List Placed) (group : Group) where
   fills_section : (p : Placed) (b : Bases) (s : ObjectSection) (named : Option Group) → AreWithin (length s.bytes) s.relocations →
@@ -255,17 +241,11 @@ module _ (machine : MachineType) (first : ℕ) (objects : List Object) (sized : 
   all_rise : Rising (packed_descriptors first) (packed_end first objects) (image_of machine (packed first objects) (placed_from (packed first objects) objects))
   all_rise = rising_next 4 Descriptors _ (rising_next 8 DirectoryEnds _ (rising_next 8 Lookups _ (rising_next 8 Addresses _ (rising_next 8 HintNames _ last_rises))))
 
-  descriptors_base : IsBase (packed_descriptors first)
-  descriptors_base = aligned_base first above
-
   directory_ends_base : IsBase (packed_directory_ends first objects)
   directory_ends_base = grind (arith, aligned_base, ends_rise, aligned_end)
 
   lookups_base : IsBase (packed_lookups first objects)
-  lookups_base = above_zero DirectoryEnds (packed_directory_ends first objects) objects (grind (arith, descriptors_base, ends_rise, aligned_end))
-
-  addresses_base : IsBase (packed_addresses first objects)
-  addresses_base = above_zero Lookups (packed_lookups first objects) objects (above_zero DirectoryEnds (packed_directory_ends first objects) objects directory_ends_base)
+  lookups_base = above_zero DirectoryEnds (packed_directory_ends first objects) objects (grind (arith, ends_rise, aligned_end, aligned_base))
 
   hint_names_base : IsBase (packed_hint_names first objects)
   hint_names_base = above_zero Addresses (packed_addresses first objects) objects (above_zero Lookups (packed_lookups first objects) objects lookups_base)
@@ -275,7 +255,7 @@ module _ (machine : MachineType) (first : ℕ) (objects : List Object) (sized : 
     descriptors = (aligned_base first above);
     directory_ends = directory_ends_base;
     lookups = lookups_base;
-    addresses = addresses_base;
+    addresses = above_zero Lookups (packed_lookups first objects) objects (above_zero DirectoryEnds (packed_directory_ends first objects) objects directory_ends_base);
     hint_names = hint_names_base;
     dll_names = above_zero HintNames (packed_hint_names first objects) objects hint_names_base;
     ends = rising_ends (packed_descriptors first) (packed_end first objects) (image_of machine (packed first objects) (placed_from (packed first objects) objects)) all_rise below;

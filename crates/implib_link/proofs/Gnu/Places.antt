@@ -1,6 +1,5 @@
 -- Code at another base: a base relocation changes its own field, and nothing else.
-use Rattle.std.proofs.Common.{◌≡◌, ℕ, ◌+◌, ◌<◌, ◌≤◌, Bool, true, false, List, [], ◌∷◌, ◌++◌, map, None, Some, refl, inl, inr, arith}
-use Rattle.std.specs.Prelude.{if◌then◌else◌}
+use Rattle.std.proofs.Common.{◌≡◌, ℕ, ◌+◌, ◌<◌, ◌≤◌, true, false, List, [], ◌∷◌, ◌++◌, map, Some, refl, inl, inr, arith}
 use Rattle.std.specs.List.{AllByRecursion, flat_map, list_any}
 use Rattle.std.proofs.lemmas.List.Folds.{list_any-append}
 use Rattle.implib.specs.declared.coff.object.Relocation.{Relocation}
@@ -27,15 +26,9 @@ unfolding Among
 none_covers f a [] each = refl
 none_covers f a (d ∷ xs) each = grind (arith, none_covers f a xs, list_any-append)
 
-none_narrow : (width most : ℕ) → None ≡ Some width → width ≤ most
-none_narrow width most is = cc
-
-i386_narrow : (b : Bool) (width : ℕ) → (if b then Some 4 else None) ≡ Some width → width ≤ 4
-i386_narrow b width is = grind (arith, none_narrow)
-
 -- what a base relocation changes is in the field
 pub narrow : (machine : MachineType) (type width : ℕ) → absolute_width machine type ≡ Some width → width ≤ field_width machine type
-narrow machine type width is = grind (arith, i386_narrow, none_narrow)
+narrow machine type width is = grind arith
 
 -- a relocation that stores an address whole has its place
 pub among_place : (machine : MachineType) (position : ℕ) (r : Relocation) (width : ℕ) (rs : List Relocation) → absolute_width machine r.kind ≡ Some width → Among r rs →

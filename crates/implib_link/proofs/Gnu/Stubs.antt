@@ -25,15 +25,7 @@ module _ (machine : MachineType) (dll : NamesOfDll) where
   export_placed (x ∷ es) b rest even zero e is =
       grind (arith, placed_export machine dll b e, placed-export machine dll b x (after_head machine dll es rest) even, after_head machine dll es rest, ends_of_export machine dll b x, among_first (placed_export machine dll b e) (placed_from (ends_of_export machine dll b x) (after_head machine dll es rest)), times_none b.addresses (thunk_width machine))
   export_placed (x ∷ es) b rest even (suc j) e is =
-      let later : Bases = ends_of_export machine dll b x in
-      let found = export_placed es later rest (aligned_after machine dll b x even) j e is in (
-        found.0,
-        (
-          subst (Among (placed_export machine dll found.0 e)) (sym (placed-export machine dll b x (after_head machine dll es rest) even))
-              (among_later (placed_export machine dll found.0 e) (placed_export machine dll b x) (placed_from later (after_head machine dll es rest)) found.1.0),
-          found.1.1 ∙ times_next b.addresses (thunk_width machine) j,
-        ),
-      )
+      grind (arith, ends_of_export, placed_export, placed-export, among_later, times_next, export_placed es (ends_of_export machine dll b x) rest (aligned_after machine dll b x even) j e is)
 
   pub behind_exports : (es : List ExportView) (b : Bases) (rest : List Object) (q : Placed) → AreAligned b → Among q (placed_from (ends_of_all machine dll b es) rest) →
       Among q (placed_from b (after_head machine dll es rest))

@@ -20,9 +20,8 @@ use Rattle.implib.proofs.Link.LinkedMembers.{all_at}
 -- the exports of a list that is stated are those of the list
 exports_stated : (machine : MachineType) (exports : List ExportView) (statements : List Export) → EachAsksForItsWord machine exports statements →
     map (λ (s : Stated). s.export) (stated exports statements) ≡ exports
-exports_stated machine [] statements each = grind arith
-exports_stated machine (e ∷ exports) [] each = absurd each
 exports_stated machine (e ∷ exports) (s ∷ statements) each = ap (λ others. e ∷ others) (exports_stated machine exports statements each.1)
+exports_stated machine exports statements each = grind arith
 
 pub all_filter : {X : Type 0} (P : X → Type 0) (test : X → Bool) (xs : List X) → AllByRecursion P xs → AllByRecursion P (filter test xs)
 all_filter P test xs all = all_from P (filter test xs) (λ x held. all_among P x xs (passing test x xs held).0 all)

@@ -1,6 +1,6 @@
 -- What a loader finds that begins with a file.
 use Rattle.std.proofs.lemmas.Grind.{common_steps}
-use Rattle.std.proofs.Common.{◌≡◌, ℕ, zero, suc, ◌+◌, ◌-◌, ◌*◌, ◌^◌, ◌<◌, ◌≤◌, List, [], ◌∷◌, ◌++◌, length, map, Some, refl, sym, ◌∙◌, subst, inl, inr, arith}
+use Rattle.std.proofs.Common.{◌≡◌, ℕ, zero, suc, ◌+◌, ◌-◌, ◌*◌, ◌^◌, ◌<◌, ◌≤◌, List, [], ◌∷◌, ◌++◌, length, map, Some, refl, ◌∙◌, subst, inl, inr, arith}
 use Rattle.std.specs.Prelude.{slice_get, slice_index}
 use Rattle.std.specs.List.{AllByRecursion, Contains}
 use Rattle.std.proofs.Math.Nat.{mul-add}
@@ -14,7 +14,7 @@ use Rattle.implib.specs.Members.ImportTables.{thunk_width}
 use Rattle.implib.specs.declared.machine.MachineType.{MachineType}
 use Rattle.implib.proofs.Link.LinkedMembers.{among_map}
 use Rattle.implib.proofs.Link.Ranges.{all_among, among_back}
-use Rattle.implib_link.specs.Image.Files.{DataDirectory, LoadsFile, MappedFile, WritesFrom}
+use Rattle.implib_link.specs.Image.Files.{DataDirectory, LoadsFile, MappedFile}
 use Rattle.implib_link.specs.Image.Laws.{HasTable, IsFileOf, IsInDirectory, thunks_with_nulls}
 use Rattle.implib_link.specs.Gnu.Fields.{AreLinkedBeside, DefinesIn, LinkedCode, range_of_code, ranges_of_codes, AllLead, AreKept}
 use Rattle.implib_link.specs.Gnu.Writing.{Writes}
@@ -66,9 +66,7 @@ module _ (machine : MachineType) (t : Tables) (bytes : List ℕ) (file : MappedF
   file_loads n written loads = grind (arith, read, length-map, tables_load)
 
   pub file_ends : (written : List Range) × LoadsFile file gives (length t.tables) written
-  file_ends =
-      let found = memory_can_be_read t.image file.image kept (thunk_width machine) gives t.directory (map imported_by_table t.tables) tables.directory in
-      (found.0, subst (λ o. WritesFrom file gives o (length t.tables) found.0) (sym own.directory) (grind (arith, length-map)))
+  file_ends = grind (arith, memory_can_be_read t.image file.image kept (thunk_width machine) gives t.directory (map imported_by_table t.tables) tables.directory, length-map)
 
   -- what is in tables that are in a directory
   all_in : (d : DataDirectory) → AllByRecursion (HasTable (thunk_width machine) d) t.tables → (written : List Range) →

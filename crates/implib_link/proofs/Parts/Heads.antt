@@ -34,12 +34,8 @@ use Rattle.implib_link.proofs.Gnu.Filling.{zero_table, table_with}
 
 -- The address of a symbol in the only section of a group.
 module _ (group : Group) (o : Object) (b : Bases) (s : ObjectSection) (is : only_section group o ≡ Some s) (even : base_of group b % 4 ≡ 0) where
-  in_section : (k value : ℕ) (found : Option ObjectSection) → slice_get o.sections k ≡ found → is_in_group group found ≡ true →
-      address_in (section_addresses_of b o.sections) (suc k) value ≡ Some (base_of group b + value)
-  in_section k value found at own = grind (arith, one_is, one_address)
-
   pub group_address : (number value : ℕ) → is_in_group group (section_numbered o.sections number) ≡ true → address_in (section_addresses_of b o.sections) number value ≡ Some (base_of group b + value)
-  group_address number value own = grind (arith, in_section)
+  group_address number value own = grind (arith, one_is, one_address)
 
 -- an entry's symbol is defined there
 entry_defined : (o : Object) (b : Bases) (s : ObjectSection) → only_section Addresses o ≡ Some s → b.addresses % 4 ≡ 0 → (name : List ℕ) (entries : List Entry) → list_any (bytes_eq name) (filter_map (entry_name o.sections) entries) ≡ true →
@@ -61,8 +57,7 @@ entry_defined o b s is even name (ASymbol x ∷ entries) held =
 
 pub has_section : (machine : MachineType) (o : Object) (ask : Ask) (found : Option ObjectSection) → option_and_then (λ (s : ObjectSection). ask_of machine o s.bytes s.relocations) found ≡ Some ask →
     (s : ObjectSection) × (found ≡ Some s)
-has_section machine o ask None is = cc
-has_section machine o ask (Some s) is = (s, refl)
+has_section machine o ask found is = grind arith
 
 next_table : (a w n : ℕ) → a + w + w * (n + 1) ≡ a + w * (suc n + 1)
 next_table a w n = let count : suc (n + 1) ≡ suc n + 1 = omega arith in times_next a w (n + 1) ∙ ap (λ k. a + w * k) count
@@ -75,10 +70,9 @@ module _ (machine : MachineType) (linked : List Placed) (image : List Range) (st
   -- what the last of objects defines with a text
   texts_named : (name bytes : List ℕ) (objects later : List Object) (b : Bases) → AllByRecursion IsSized objects → LocatedFrom machine linked image b (objects ++ later) → named_bytes name objects ≡ Some bytes →
       (a : ℕ) × (Among (record { name = name; address = Some a }) (definitions (placed_from b (objects ++ later))) × BytesAt image a bytes)
-  texts_named name bytes [] later b sized located is = cc
-  texts_named name bytes (o ∷ []) later b sized located is = grind (arith, named_located, among_front)
   texts_named name bytes (o ∷ q ∷ objects) later b sized located is =
       grind (arith, texts_named name bytes (q ∷ objects) later (ends_after b o.sections) sized.1 (located_next o b (q ∷ objects ++ later) sized.0 located) is, located_next, among_back)
+  texts_named name bytes objects later b sized located is = grind (arith, named_located, among_front)
 
   -- an object with an entry, placed among others that are placed from bases on
   pub record IsEntryPlaced (b : Bases) (all : List Object) (o : Object) (address : ℕ) : Type 0 where

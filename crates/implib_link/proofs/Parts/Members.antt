@@ -1,6 +1,6 @@
 -- What is linked of a definition for GNU's linker is a part, and parts that store no address whole are steady.
 use Rattle.std.proofs.Common.{rules, ◌≡◌, ℕ, ◌+◌, ◌*◌, ◌-◌, ◌%◌, ◌/◌, ◌^◌, ◌<◌, true, false, List, [], ◌∷◌, ◌++◌, codes, map, Option, Some, None, refl, ap, sym, ◌∙◌, subst, inl, inr, arith, ◌≤◌, zero, suc, length}
-use Rattle.std.specs.Prelude.{Bool, bytes_eq, not, slice_get, take, if◌then◌else◌, ◌&&◌, ◌==◌}
+use Rattle.std.specs.Prelude.{Bool, bytes_eq, not, slice_get, take, if◌then◌else◌}
 use Rattle.std.specs.List.{AllByRecursion, filter_map, list_all, list_any, Contains, cons_option}
 use Rattle.std.proofs.lemmas.List.{append_assoc}
 use Rattle.std.proofs.lemmas.Bool.{and_from, cases_Bool, lt-ltb, ltb-true, and_parts, eqb-true}
@@ -9,7 +9,7 @@ use Rattle.implib.specs.declared.coff.object.Relocation.{Relocation}
 use Rattle.implib.specs.declared.machine.MachineType.{MachineType}
 use Rattle.implib.specs.Definition.{ExportView}
 use Rattle.implib.specs.Formats.Bytes.{u16_bytes}
-use Rattle.implib.specs.Formats.Constants.{class_external, class_static, image_relative, align_4bytes, cnt_code, mem_execute_read}
+use Rattle.implib.specs.Formats.Constants.{class_external, class_static, align_4bytes, cnt_code, mem_execute_read}
 use Rattle.implib.specs.Formats.Layout.{HasNoNul, Fits, encoded, encoded_size}
 use Rattle.implib.specs.Formats.Object.{Entry, Object, ObjectSection, object_in, ASymbol, Auxiliary, ObjectSymbol, section_numbered}
 use Rattle.implib.specs.Formats.Writer.{AddedSymbol, all_entries, written_object, WriterState, layout_of}
@@ -19,24 +19,23 @@ use Rattle.implib.specs.declared.flavor.Flavor.TheVariants.{Gnu}
 use Rattle.implib.specs.Link.LinkedMembers.{IsMade, LinkInput, chosen_exports, objects_in}
 use Rattle.implib.specs.Link.Load.{number_in}
 use Rattle.implib.specs.Link.Placement.{Addresses, Bases, Lookups, placed_from, Placed, SectionAddress, section_addresses_of}
-use Rattle.implib.specs.Members.Gnu.{added, code_symbol, export_object, head_object, head_symbol, hint_name, hint_name_symbol, iname_symbol, relocations_of_thunk, tail_object, thunk, relocations_of_stub, section, stub, stub_bytes, stub_relocations, text_name}
+use Rattle.implib.specs.Members.Gnu.{added, code_symbol, export_object, head_object, head_symbol, hint_name, hint_name_symbol, relocations_of_thunk, tail_object, thunk, relocations_of_stub, section, stub, stub_bytes, stub_relocations, text_name}
 use Rattle.implib.specs.Members.ImportTables.{relocation, thunk_width, zeros}
 use Rattle.implib.specs.Members.OlderSymbols.{object_with, AreOlderMembersOf, numbered_older_specs, older_object, older_refusal, older_renamed_refusal, older_spec, older_specs, older_specs_of, older_symbol}
 use Rattle.implib.proofs.Formats.Symbols.{before_nul-ended}
 use Rattle.implib.proofs.Link.Definitions.{same_text}
 use Rattle.implib.proofs.Link.Linked.{all_append}
 use Rattle.implib.proofs.Link.LinkedMembers.{dll_free, exports_fit, objects_are, all_at, among_contains, among_map, among_reverse}
-use Rattle.implib.proofs.Link.Placement.{after_head, head, tail}
+use Rattle.implib.proofs.Link.Placement.{head, tail}
 use Rattle.implib.proofs.Link.Tables.{CanBeAsked}
 use Rattle.implib_link.specs.Flavors.Program.{null_descriptor}
 use Rattle.implib_link.specs.Gnu.Fields.{absolute_width, Defines, PlacedCode, StubAt}
-use Rattle.implib_link.specs.Parts.{AreEntries, BeginWithHead, HoldsFields, IsEntry, IsPart, IsProgramOfParts, IsTail, Part, ask_of, begins, dll_text, entry_name, hint_and_name, is_field, is_whole, named_bytes, names_entry, objects_of_parts, ordinal_with, own_bytes, part_of, row_in, stores_none, older_linked, older_numbered, older_part_of, is_in_group, leads_to}
+use Rattle.implib_link.specs.Parts.{AreEntries, BeginWithHead, HoldsFields, IsEntry, IsPart, IsProgramOfParts, Part, ask_of, begins, entry_name, hint_and_name, is_whole, named_bytes, names_entry, objects_of_parts, ordinal_with, own_bytes, part_of, row_in, stores_none, older_linked, older_numbered, older_part_of, is_in_group, leads_to}
 use Rattle.implib_link.specs.Tables.{AreSteady, TableEntry, Table, tables_at}
 use Rattle.implib_link.proofs.Gnu.Others.{no_group, one_definer}
-use Rattle.implib_link.proofs.Flavors.Steady.{AllSteady, NoneAbsolute, all_steady, tables_none, relative_steady}
+use Rattle.implib_link.proofs.Flavors.Steady.{AllSteady, NoneAbsolute, all_steady, tables_none}
 use Rattle.implib_link.proofs.Gnu.Packed.{export_sized, head_sized, tail_sized}
 use Rattle.implib_link.proofs.Search.Lists.{all_from, each_of, none_among, contains_among}
-use Rattle.std.specs.Option.{option_map}
 use Rattle.implib.specs.Fault.{MemberTooLong}
 use Rattle.implib.specs.Members.GnuMembers.{head_spec, tail_spec}
 use Rattle.implib.specs.Members.MemberSpec.{MemberSpec, file_size, member_of}
@@ -49,7 +48,7 @@ use Rattle.implib.proofs.Link.Ranges.{Among, among_back, among_first, among_fron
 use Rattle.implib.proofs.Members.GnuObjects.{Fits-head_object, Fits-older_object, Fits-tail_object}
 use Rattle.implib.proofs.Members.NotRefused.{Sound, first_none, if_none, linked_free_by_names, name_asked_free, short_enough, sound_by_names, text_free_by_names}
 use Rattle.implib.specs.Formats.File.{is_defined_external}
-use Rattle.implib.specs.Link.Resolution.{SymbolDefinition, address_in, defined_by_entry, definitions_of, is_undefined_external, symbol_address}
+use Rattle.implib.specs.Link.Resolution.{SymbolDefinition, address_in, defined_by_entry, definitions_of, symbol_address}
 use Rattle.implib_link.proofs.Flavors.LldImports.{get_map}
 use Rattle.implib_link.proofs.Flavors.Stubs.{symbol_of_entry}
 use Rattle.implib_link.proofs.Tables.{packed_at}
@@ -77,22 +76,9 @@ head_lookups : (machine : MachineType) (dll : NamesOfDll) → begins Lookups (he
 unfolding head_object
 head_lookups machine dll = refl
 
-head_addresses : (machine : MachineType) (dll : NamesOfDll) → begins Addresses (head machine dll) 2 ≡ true
-unfolding head_object
-head_addresses machine dll = refl
-
 last_named : (machine : MachineType) (dll : NamesOfDll) (more : ExportView → List AddedSymbol) (name : List ℕ) (es : List ExportView) → named_bytes name (after_by machine dll more es) ≡ named_bytes name (tail machine dll ∷ [])
-last_named machine dll more name [] = refl
-last_named machine dll more name (e ∷ []) = refl
 last_named machine dll more name (e ∷ f ∷ es) = last_named machine dll more name (f ∷ es)
-
-tail_named : (machine : MachineType) (dll : NamesOfDll) → named_bytes (iname_symbol machine dll.linked) (tail machine dll ∷ []) ≡ Some (dll.text ++ 0 ∷ [])
-unfolding tail_object
-tail_named machine dll = rw (same_text (iname_symbol machine dll.linked)) refl
-
-head_name : (machine : MachineType) (dll : NamesOfDll) (more : ExportView → List AddedSymbol) (es : List ExportView) → HasNoNul dll.text → dll_text (after_by machine dll more es) (slice_get (head machine dll).entries 5) ≡ Some dll.text
-unfolding head_object
-head_name machine dll more es free = grind (arith, free, last_named, tail_named, before_nul-ended)
+last_named machine dll more name es = cc
 
 -- An export.
 
@@ -100,22 +86,12 @@ head_name machine dll more es free = grind (arith, free, last_named, tail_named,
 abbrev names_at : MachineType → NamesOfDll → List AddedSymbol → ExportView → List Entry → List (List ℕ)
 names_at machine dll more e entries = filter_map (entry_name (exported machine dll more e).sections) entries
 
-names_by : (machine : MachineType) (dll : NamesOfDll) (more : List AddedSymbol) (e : ExportView) (is_data : Bool) →
-    (let x : ExportView = record e { is_data = is_data } in names_at machine dll more x (exported machine dll more x).entries ≡ imp_symbol e.name ∷ names_at machine dll more x (all_entries more))
-names_by machine dll more e is_data = grind arith
-
 pub names_are : (machine : MachineType) (dll : NamesOfDll) (more : List AddedSymbol) (e : ExportView) → names_at machine dll more e (exported machine dll more e).entries ≡ imp_symbol e.name ∷ names_at machine dll more e (all_entries more)
-names_are machine dll more e = names_by machine dll more e e.is_data
-
-high_byte : (n : ℕ) → n / 256 % 256 < 256
-high_byte n = omega arith
-
-hint_is : (n : ℕ) → n < 2 ^ 16 → n % 256 + 256 * (n / 256 % 256) ≡ n
-hint_is n small = omega arith
+names_are machine dll more e = grind arith
 
 hint_read : (n : ℕ) (text : List ℕ) → n < 2 ^ 16 → HasNoNul text → hint_and_name (u16_bytes n ++ (text ++ 0 ∷ [])) ≡ Some (Name text n)
 unfolding u16_bytes
-hint_read n text small free = grind (arith, lt-ltb, high_byte, before_nul-ended, free, hint_is)
+hint_read n text small free = grind (arith, lt-ltb, before_nul-ended, free)
 
 number_read : (n : ℕ) (rest : List ℕ) → n < 2 ^ 16 → number_in (take 2 (u16_bytes n ++ rest)) ≡ n
 unfolding u16_bytes
@@ -126,9 +102,6 @@ ordinal_read machine n small = rw (same_text (u16_bytes n ++ (zeros (thunk_width
 
 same_zeros : (machine : MachineType) → bytes_eq (zeros (thunk_width machine)) (zeros (thunk_width machine)) ≡ true
 same_zeros machine = same_text (zeros (thunk_width machine))
-
-same_kind : (machine : MachineType) → is_field machine 0 (relocation machine 0 0) ≡ true
-same_kind machine = grind arith
 
 module _ (machine : MachineType) (dll : NamesOfDll) (more : List AddedSymbol) (e : ExportView) (fits : CanBeAsked machine e) where
   own_hint : e.no_name ≡ false → own_bytes (exported machine dll more e) (slice_get (exported machine dll more e).entries (hint_name_symbol e)) ≡ Some (u16_bytes e.ordinal ++ (name_asked machine e ++ 0 ∷ []))
@@ -151,21 +124,11 @@ module _ (machine : MachineType) (dll : NamesOfDll) (more : List AddedSymbol) (e
   unfolding relocations_of_thunk
   no_field is = rw is refl
 
-  by_name : e.no_name ≡ false → expected_ask machine e ≡ Name (name_asked machine e) e.ordinal
-  by_name is = rw is refl
-
-  by_ordinal : e.no_name ≡ true → expected_ask machine e ≡ Ordinal e.ordinal
-  by_ordinal is = rw is refl
-
   asks : ask_of machine (exported machine dll more e) (thunk machine e) (relocations_of_thunk machine e) ≡ Some (expected_ask machine e)
-  asks = grind (arith, no_field, ordinal_thunk_is, number_read, ordinal_read, by_ordinal, named_field, named_thunk, own_hint, hint_read, by_name)
+  asks = grind (arith, no_field, ordinal_thunk_is, number_read, ordinal_read, named_field, named_thunk, own_hint, hint_read)
 
   export_entry : (name : List ℕ) → names_entry (exported machine dll more e) (Some name) ≡ true → IsEntry machine (exported machine dll more e) (record { ask = expected_ask machine e; symbol = Some name })
   export_entry name named = record { descriptors = refl; lookup = asks; address = asks; symbol = named }
-
-tail_is : (machine : MachineType) (dll : NamesOfDll) → IsTail machine (tail machine dll)
-unfolding tail_object
-tail_is machine dll = record { descriptors = refl; lookup = rw (same_zeros machine) refl; address = rw (same_zeros machine) refl }
 
 -- Exports whose objects have these further symbols, and whose entries have these names.
 module _ (machine : MachineType) (dll : NamesOfDll) (more : ExportView → List AddedSymbol) (name : ExportView → List ℕ)
@@ -174,23 +137,14 @@ module _ (machine : MachineType) (dll : NamesOfDll) (more : ExportView → List 
   entry_for e = record { ask = expected_ask machine e; symbol = Some (name e) }
 
   entries_are : (es : List ExportView) → AllByRecursion (CanBeAsked machine) es → AreEntries machine (after_by machine dll more es) (map entry_for es)
-  unfolding AreEntries
-  entries_are [] fit = tail_is machine dll
+  unfolding AreEntries tail_object
+  entries_are [] fit = record { descriptors = refl; lookup = rw (same_zeros machine) refl; address = rw (same_zeros machine) refl }
   entries_are (e ∷ es) fit = (export_entry machine dll (more e) e fit.0 (name e) (named e), entries_are es fit.1)
 
   begin_with_head : (es : List ExportView) → HasNoNul dll.text → AllByRecursion (CanBeAsked machine) es →
       BeginWithHead machine (head machine dll ∷ after_by machine dll more es) (record { dll = dll.text; entries = map entry_for es })
-  unfolding BeginWithHead
-  begin_with_head es free fit = (
-    record {
-      row = record { lookups = 3; name = 5; addresses = 2 };
-      fields = head_row machine dll;
-      lookups = head_lookups machine dll;
-      addresses = head_addresses machine dll;
-      name = head_name machine dll more es free;
-    },
-    entries_are es fit,
-  )
+  unfolding BeginWithHead head_object tail_object
+  begin_with_head es free fit = grind (arith, head_row machine dll, head_lookups machine dll, entries_are es fit, free, last_named, before_nul-ended, same_text)
 
   sized : (es : List ExportView) → AllByRecursion HoldsFields (after_by machine dll more es)
   unfolding export_object
@@ -206,13 +160,10 @@ module _ (machine : MachineType) (dll : NamesOfDll) (more : ExportView → List 
 today_named : (machine : MachineType) (dll : NamesOfDll) (e : ExportView) → names_entry (exported machine dll [] e) (Some (imp_symbol e.name)) ≡ true
 today_named machine dll e = ap (list_any (bytes_eq (imp_symbol e.name))) (names_are machine dll [] e) ∙ rw (same_text (imp_symbol e.name)) refl
 
-same_objects : (machine : MachineType) (dll : NamesOfDll) (es : List ExportView) → after_head machine dll es [] ≡ after_by machine dll (λ e. []) es
-unfolding export_object
-same_objects machine dll es = refl
-
 pub members_objects : (machine : MachineType) (p : LinkInput) → IsMade machine p →
     (part_of machine p).objects ≡ head machine (names_for Gnu p.definition) ∷ after_by machine (names_for Gnu p.definition) (λ e. []) (chosen_exports p.definition p.chosen)
-members_objects machine p made = grind (arith, objects_are p.definition machine p.members p.chosen made, head, same_objects)
+unfolding export_object
+members_objects machine p made = grind (arith, objects_are p.definition machine p.members p.chosen made, head)
 
 pub members_are_part : (machine : MachineType) (p : LinkInput) → IsMade machine p → IsPart machine (part_of machine p)
 members_are_part machine p made =
@@ -225,14 +176,12 @@ members_are_part machine p made =
 fields_none : (machine : MachineType) (relocations : List Relocation) → list_all (λ r. not (is_whole (absolute_width machine r.kind))) relocations ≡ true → NoneAbsolute machine relocations
 fields_none machine relocations all = grind (arith, all_from, each_of)
 
-objects_steady : (machine : MachineType) (objects : List Object) → list_all (stores_none machine) objects ≡ true → AllByRecursion (AllSteady machine) objects
-objects_steady machine objects all = all_from (AllSteady machine) objects (λ o held. (grind (arith, all_from, each_of, fields_none, no_group, each_of (stores_none machine) o objects all held)))
-
 each_steady : (machine : MachineType) (parts : List Part) → AllByRecursion (λ (p : Part). list_all (stores_none machine) p.objects ≡ true) parts → AllByRecursion (AllSteady machine) (objects_of_parts parts ++ null_descriptor ∷ [])
 each_steady machine [] all = ((inr tt, tt), tt)
 each_steady machine (p ∷ parts) all =
     subst (AllByRecursion (AllSteady machine)) (sym (append_assoc p.objects (objects_of_parts parts) (null_descriptor ∷ [])))
-    (all_append (AllSteady machine) p.objects (objects_of_parts parts ++ null_descriptor ∷ []) (objects_steady machine p.objects all.0) (each_steady machine parts all.1))
+    (all_append (AllSteady machine) p.objects (objects_of_parts parts ++ null_descriptor ∷ [])
+    (all_from (AllSteady machine) p.objects (λ o held. (grind (arith, all_from, each_of, fields_none, no_group, each_of (stores_none machine) o p.objects all.0 held)))) (each_steady machine parts all.1))
 
 pub parts_steady : (machine : MachineType) (bases : Bases) (parts : List Part) (objects : List Object) → IsProgramOfParts machine bases parts objects →
     AllByRecursion (λ (p : Part). list_all (stores_none machine) p.objects ≡ true) parts → AreSteady machine (placed_from bases objects)
@@ -240,25 +189,15 @@ parts_steady machine bases parts objects program all = grind (arith, tables_none
 
 -- Members store none.
 
-relative_none : (machine : MachineType) → not (is_whole (absolute_width machine (image_relative machine))) ≡ true
-relative_none machine = ap (λ w. not (is_whole w)) (relative_steady machine)
-
-thunk_none : (machine : MachineType) (e : ExportView) → list_all (λ (r : Relocation). not (is_whole (absolute_width machine r.kind))) (relocations_of_thunk machine e) ≡ true
-unfolding relocations_of_thunk
-thunk_none machine e = elim (cases_Bool e.no_name) [ inl is ↦ rw is refl | inr is ↦ rw (is, relative_none machine) refl ]
-
 module _ (machine : MachineType) (dll : NamesOfDll) (more : ExportView → List AddedSymbol) where
   exports_none : (es : List ExportView) → list_all (stores_none machine) (after_by machine dll more es) ≡ true
-  unfolding tail_object
+  unfolding tail_object relocations_of_thunk
   exports_none [] = refl
-  exports_none (e ∷ es) = grind (arith, exports_none es, relative_none, thunk_none, and_from)
-
-  head_none : stores_none machine (head machine dll) ≡ true
-  unfolding head_object
-  head_none = rw (relative_none machine) refl
+  exports_none (e ∷ es) = grind (arith, exports_none es, and_from)
 
   pub part_stores_none : (objects : List Object) (es : List ExportView) → objects ≡ head machine dll ∷ after_by machine dll more es → list_all (stores_none machine) objects ≡ true
-  part_stores_none objects es are = grind (arith, and_from, head, head_none, exports_none)
+  unfolding head_object
+  part_stores_none objects es are = grind (arith, and_from, head, exports_none)
 
 pub members_store_none : (machine : MachineType) (p : LinkInput) → IsMade machine p → list_all (stores_none machine) (part_of machine p).objects ≡ true
 members_store_none machine p made = search (rules, part_stores_none, members_objects)
@@ -272,11 +211,10 @@ held_reads h fits short = grind (arith, object_in-encoded, object_of-layout_of)
 -- the specification of each export is among those of the definition
 numbered_among : (machine : MachineType) (dll : List ℕ) (exports : List ExportView) (start n : ℕ) (e : ExportView) → slice_get exports n ≡ Some e →
     Among (older_spec machine dll (start + n) e) (numbered_older_specs machine dll start exports)
-numbered_among machine dll [] start n e is = cc
-numbered_among machine dll (x ∷ exports) start zero e is = grind (arith, among_front, among_back, among_first)
 numbered_among machine dll (x ∷ exports) start (suc n) e is =
     among_back _ (older_specs_of machine dll start x) (numbered_older_specs machine dll (start + 1) exports)
     (subst (λ n. Among (older_spec machine dll n e) (numbered_older_specs machine dll (start + 1) exports)) (omega arith) (numbered_among machine dll exports (start + 1) n e is))
+numbered_among machine dll exports start n e is = grind (arith, among_front, among_back, among_first)
 
 -- the further symbol of each export
 abbrev pub further : ExportView → List AddedSymbol
@@ -354,17 +292,9 @@ module _ (machine : MachineType) (p : LinkInput) (made : AreOlderMembersOf p.def
   held_by : (s : MemberSpec) → Among s specs → Contains p.members (member_of s)
   held_by s m = subst (λ ms. Contains ms (member_of s)) (sym made.made) (among_contains (member_of s) (map member_of specs) (among_map member_of s specs m))
 
-  one_more : (n : ℕ) (ns : List ℕ) (found : Option ExportView) → slice_get exports n ≡ found → AreChosen ns →
-      (objects_in (map member_of (cons_option (option_map (older_spec machine dll.linked n) found) (filter_map (older_numbered machine dll.linked exports) ns) ++ tail_spec machine dll ∷ []))
-      ≡ after_by machine dll further (cons_option found (filter_map (slice_get exports) ns)))
-      × (AllByRecursion (Contains p.members) (map member_of (cons_option (option_map (older_spec machine dll.linked n) found) (filter_map (older_numbered machine dll.linked exports) ns) ++ tail_spec machine dll ∷ []))
-      × AllByRecursion (CanBeAsked machine) (cons_option found (filter_map (slice_get exports) ns)))
-  one_more n ns None is rest = (rest.objects, (rest.held, rest.asked))
-  one_more n ns (Some e) is rest = grind (arith, export_reads n e is, held_by (older_spec machine dll.linked n e) (export_among n e is), export_among n e is, fit n e is)
-
   all_chosen : (ns : List ℕ) → AreChosen ns
   all_chosen [] = record { objects = ap (λ o. cons_option o []) tail_reads; held = (held_by (tail_spec machine dll) tail_among, tt); asked = tt }
-  all_chosen (n ∷ ns) = grind (arith, all_chosen ns, one_more n ns (slice_get exports n) refl (all_chosen ns))
+  all_chosen (n ∷ ns) = grind (arith, all_chosen ns, export_reads, held_by, export_among, fit)
 
   pub older_held : AllByRecursion (Contains p.members) (older_linked p.definition machine p.chosen)
   older_held = (held_by (head_spec machine dll.linked) head_among, (all_chosen p.chosen).held)
@@ -406,14 +336,7 @@ record HasStub (machine : MachineType) (o : Object) (name : List ℕ) : Type 0 w
 entry_found : (linked : List Placed) (o : Object) (b : Bases) → ((number value : ℕ) → is_in_group Addresses (section_numbered o.sections number) ≡ true → address_in (section_addresses_of b o.sections) number value ≡ Some (b.addresses + value)) →
     (found : Option Entry) → leads_to Addresses o found ≡ true →
     (x : Entry) × ((found ≡ Some x) × (symbol_address linked (record { object = o; section_addresses = section_addresses_of b o.sections }) x ≡ Some b.addresses))
-entry_found linked o b place None led = cc
-entry_found linked o b place (Some (Auxiliary bytes)) led = cc
-entry_found linked o b place (Some (ASymbol x)) led =
-    let first = and_parts (not (is_undefined_external x)) ((x.value == 0) && is_in_group Addresses (section_numbered o.sections x.section)) led in
-    elim (cases_Bool (is_undefined_external x)) [
-      | inl left ↦ let none : false ≡ true = rw left at first.0 in cc
-      | inr own ↦ (ASymbol x, (refl, rw own (grind (arith, and_parts (x.value == 0) (is_in_group Addresses (section_numbered o.sections x.section)) first.1, eqb-true, plus_none))))
-    ]
+entry_found linked o b place _ led = grind (arith, and_parts, cases_Bool, eqb-true, plus_none)
 
 module _ (machine : MachineType) (bases : Bases) (parts : List Part) (objects : List Object) (are : AllByRecursion (IsPart machine) parts) (program : IsProgramOfParts machine bases parts objects) where
   abbrev linked : List Placed
@@ -432,29 +355,14 @@ module _ (machine : MachineType) (bases : Bases) (parts : List Part) (objects : 
       let most : length (definitions_of name linked) ≤ 1 = rw once (omega arith) in
       let one = one_definer name linked d.from own t symbol most (contains_among d.from linked d_from) (contains_among (ASymbol t) d.from.object.entries defines.held) defines.external named
       (kept_is_linked machine bases parts objects are program own place.held) stub.defined refl refl in
-      let t_is : t ≡ symbol = symbol_of_entry t symbol one.1 in
-      let first : d.number ≡ 1 = sym defines.here ∙ ap (λ (y : ObjectSymbol). y.section) t_is in
-      let numbered : section_numbered o.sections 1 ≡ Some d.code = subst (λ n. section_numbered o.sections n ≡ Some d.code) first (subst (λ (y : Placed). section_numbered y.object.sections d.number ≡ Some d.code) one.0 d_section) in
-      let code_is : d.code ≡ stub_section machine = cc in
-      let at = entry_found linked o place.bases (group_address Addresses o place.bases place.section place.only place.aligned.addresses) (slice_get o.entries 2) stub.entry in
-      let entry_is : place.bases.addresses ≡ x.address + thunk_width machine * j = place.addresses ∙ ap (λ n. n + thunk_width machine * j) (ap (λ (y : Table). y.address) packed.1.1) in
-      record {
-        bytes = ap (λ (y : ObjectSection). y.bytes) code_is;
-        relocations = ap (λ (y : ObjectSection). y.relocations) code_is;
-        begins = ap (λ (y : ObjectSymbol). y.value) t_is;
-        symbol = at.0;
-        held = subst (λ (y : Placed). slice_get y.object.entries 2 ≡ Some at.0) (sym one.0) at.1.0;
-        placed = subst (λ (y : Placed). symbol_address linked y at.0 ≡ Some (x.address + thunk_width machine * j)) (sym one.0) (at.1.1 ∙ ap Some entry_is);
-      }
+      grind (arith, symbol_of_entry t symbol one.1, entry_found linked o place.bases (group_address Addresses o place.bases place.section place.only place.aligned.addresses) (slice_get o.entries 2) stub.entry)
 
 -- The object of an export of code has its stub.
 
-has_stub_by : (machine : MachineType) (names : NamesOfDll) (more : List AddedSymbol) (e : ExportView) → HasStub machine (exported machine names more (record e { is_data = false })) e.name
-unfolding stub relocations_of_stub
-has_stub_by machine names more e = record { defined = among_later _ _ _ (among_first _ _); code = refl; entry = refl }
-
 has_stub : (machine : MachineType) (dll : NamesOfDll) (more : List AddedSymbol) (e : ExportView) → e.is_data ≡ false → HasStub machine (exported machine dll more e) e.name
-has_stub machine dll more e is = subst (λ b. HasStub machine (exported machine dll more (record e { is_data = b })) e.name) (sym is) (has_stub_by machine dll more e)
+unfolding stub relocations_of_stub
+has_stub machine dll more e is =
+    subst (λ b. HasStub machine (exported machine dll more (record e { is_data = b })) e.name) (sym is) (record { defined = among_later _ _ _ (among_first _ _); code = refl; entry = refl })
 
 after_get : (machine : MachineType) (dll : NamesOfDll) (more : ExportView → List AddedSymbol) (es : List ExportView) (j : ℕ) (e : ExportView) → slice_get es j ≡ Some e → slice_get (after_by machine dll more es) j ≡ Some (exported machine dll (more e) e)
 after_get machine dll more [] j e is = cc

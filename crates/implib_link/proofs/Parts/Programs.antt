@@ -9,7 +9,7 @@ use Rattle.implib.specs.declared.machine.MachineType.{MachineType}
 use Rattle.implib.specs.Formats.Object.{Object, ASymbol, Auxiliary, Entry}
 use Rattle.implib.specs.Link.LinkedMembers.{IsMade, LinkInput, all_linked, objects_in}
 use Rattle.implib.specs.Link.Placement.{Bases, placed_from, Addresses, Descriptors, DllNames, Group, HintNames, Lookups, Placed, SectionAddress, base_of, ends_after, section_addresses_of}
-use Rattle.implib_link.specs.Flavors.Program.{IsProgram, OfLinker, all_members, gnu_input, symbols_listed, claimed_names, has_tables, names_claimed_in, null_descriptor, claimed_name}
+use Rattle.implib_link.specs.Flavors.Program.{IsProgram, OfLinker, all_members, gnu_input, symbols_listed, claimed_names, has_tables, null_descriptor, claimed_name}
 use Rattle.implib_link.specs.Parts.{IsProgramOfParts, Part, names_of_parts, objects_of_parts, part_of, BeginWithHead, HoldsFields, IsPart}
 use Rattle.implib_link.proofs.Flavors.Program.{gnu_made, gnu_members, program_links}
 use Rattle.implib_link.proofs.Flavors.Block.{claimed_placed, plus_sum, null_located, table_sum, all_claim}
@@ -44,12 +44,15 @@ module _ (machine : MachineType) (bases : Bases) (inputs : List LinkInput) (obje
   tables_are = grind (arith, gnu_members, members_objects)
 
   names_are : symbols_listed (all_members machine (map gnu_input inputs)) ≡ names_of_parts (parts_of machine inputs)
-  names_are =
-      sym (program_links machine OfLinker bases (map gnu_input inputs) objects (gnu_made machine inputs made) program).claimed
-      ∙ ap names_claimed_in (placed_kept bases objects ∙ ap (placed_from bases) tables_are)
-      ∙ claimed_placed bases (objects_of_parts (parts_of machine inputs) ++ null_descriptor ∷ [])
-      ∙ flat_map-append claimed_names (objects_of_parts (parts_of machine inputs)) (null_descriptor ∷ [])
-      ∙ append-nil (names_of_parts (parts_of machine inputs))
+  names_are = grind (
+    arith,
+    program_links machine OfLinker bases (map gnu_input inputs) objects (gnu_made machine inputs made) program,
+    placed_kept bases objects,
+    tables_are,
+    claimed_placed bases (objects_of_parts (parts_of machine inputs) ++ null_descriptor ∷ []),
+    flat_map-append claimed_names (objects_of_parts (parts_of machine inputs)) (null_descriptor ∷ []),
+    append-nil (names_of_parts (parts_of machine inputs)),
+  )
 
   pub program_of_parts : IsProgramOfParts machine bases (map (part_of machine) inputs) objects
   program_of_parts = grind (arith, tables_are, names_are)
@@ -78,25 +81,22 @@ among_append (x ∷ xs) (y ∷ ys) zs ws (inr first) second = inr (among_append 
 
 among_all : (P : List ℕ → Type 0) (xs ys : List (List ℕ)) → IsAmong xs ys → AllByRecursion P ys → AllByRecursion P xs
 unfolding IsAmong
-among_all P [] ys is all = tt
-among_all P (x ∷ xs) [] is all = absurd is
 among_all P (x ∷ xs) (y ∷ ys) (inl (e, is)) all = (subst P (sym e) all.0, among_all P xs ys is all.1)
 among_all P (x ∷ xs) (y ∷ ys) (inr is) all = among_all P (x ∷ xs) ys is all.1
+among_all P xs ys is all = grind arith
 
 among_distinct : (xs ys : List (List ℕ)) → IsAmong xs ys → IsDistinct bytes_eq ys → IsDistinct bytes_eq xs
 unfolding IsAmong IsDistinct
-among_distinct [] ys is distinct = tt
-among_distinct (x ∷ xs) [] is distinct = absurd is
 among_distinct (x ∷ xs) (y ∷ ys) (inl (e, is)) distinct = grind (arith, among_distinct xs ys is distinct.1, among_all)
 among_distinct (x ∷ xs) (y ∷ ys) (inr is) distinct = among_distinct (x ∷ xs) ys is distinct.1
+among_distinct xs ys is distinct = grind arith
 
 among_held : (name : List ℕ) (xs ys : List (List ℕ)) → IsAmong xs ys → Among name xs → Among name ys
 unfolding IsAmong Among
-among_held name [] ys is held = absurd held
-among_held name (x ∷ xs) [] is held = absurd is
 among_held name (x ∷ xs) (y ∷ ys) (inl (e, is)) (inl same) = inl (same ∙ e)
 among_held name (x ∷ xs) (y ∷ ys) (inl (e, is)) (inr held) = inr (among_held name xs ys is held)
 among_held name (x ∷ xs) (y ∷ ys) (inr is) held = inr (among_held name (x ∷ xs) ys is held)
+among_held name xs ys is held = grind arith
 
 entries_claim : (addresses : List SectionAddress) (entries : List Entry) → IsAmong (map (λ (d : SymbolDefinition). d.name) (filter_map (defined_by_entry addresses) entries)) (filter_map claimed_name entries)
 unfolding IsAmong
@@ -143,15 +143,7 @@ module _ (machine : MachineType) (linked : List Placed) (image : List Range) (lo
   parts_link : (parts : List Part) (b : Bases) (later : List Object) → AllByRecursion (IsPart machine) parts → AreAligned b → LocatedFrom machine linked image b (objects_of_parts parts ++ later) →
       ((d : SymbolDefinition) → Among d (definitions (placed_from b (objects_of_parts parts ++ later))) → definitions_of d.name linked ≡ d ∷ []) → PartsLink b parts later
   unfolding DirectoryAt
-  parts_link [] b later are level located only = record {
-    behind = b;
-    aligned = level;
-    located = located;
-    directory = λ null. null;
-    at = λ i j p o e is held asked. cc;
-    fields = λ i x is. cc;
-    symbols = λ i j x e name is asked named. cc;
-  }
+  parts_link [] b later are level located only = grind (arith, located)
   parts_link (p ∷ parts) b later (is, are) level located only =
       let rest : List Object = objects_of_parts parts ++ later in
       let joined : (p.objects ++ objects_of_parts parts) ++ later ≡ p.objects ++ rest = append_assoc p.objects (objects_of_parts parts) later in
@@ -216,15 +208,15 @@ module _ (machine : MachineType) (b : Bases) (parts : List Part) (objects : List
   group_located group located = grind (arith, contributions_kept machine linked group b objects, located)
 
   located : LocatedFrom machine linked image b kept
-  located =
-      let all = each_located machine b objects program.admissible in
-      record {
-        descriptors = group_located Descriptors all.descriptors;
-        lookups = group_located Lookups all.lookups;
-        addresses = group_located Addresses all.addresses;
-        hint_names = group_located HintNames all.hint_names;
-        dll_names = group_located DllNames all.dll_names;
-      }
+  located = grind (
+    arith,
+    each_located machine b objects program.admissible,
+    group_located Descriptors (each_located machine b objects program.admissible).descriptors,
+    group_located Lookups (each_located machine b objects program.admissible).lookups,
+    group_located Addresses (each_located machine b objects program.admissible).addresses,
+    group_located HintNames (each_located machine b objects program.admissible).hint_names,
+    group_located DllNames (each_located machine b objects program.admissible).dll_names,
+  )
 
   claimed : flat_map claimed_names kept ≡ names_of_parts parts
   claimed = flat_map-append claimed_names (objects_of_parts parts) (null_descriptor ∷ []) ∙ append-nil (names_of_parts parts)

@@ -37,32 +37,25 @@ stays step n one even = grind arith
 -- One section.
 
 pub contribution_none : (group : Group) (b : Bases) (flags : ℕ) (named : Option Group) (bytes : List ℕ) → is_of group named ≡ false → contribution_at group (address_after b flags named) bytes ≡ []
-contribution_none group b flags None bytes is = refl
-contribution_none group b flags (Some other) bytes is = rw is refl
+contribution_none group b flags named bytes is = grind arith
 
 pub end_none : (group : Group) (n : ℕ) (s : ObjectSection) (named : Option Group) → is_of group named ≡ false → end_with group n s named ≡ n
-end_none group n s None is = refl
-end_none group n s (Some other) is = rw is refl
+end_none group n s named is = grind arith
 
 pub contribution_one : (group : Group) (b : Bases) (flags : ℕ) (named : Option Group) (bytes : List ℕ) → is_of group named ≡ true →
     contribution_at group (address_after b flags named) bytes ≡ record { address = next_multiple (alignment flags) (base_of group b); bytes = bytes } ∷ []
-contribution_one group b flags None bytes is = cc
-contribution_one group b flags (Some other) bytes is = rw (is, same_base group other b is) refl
+contribution_one group b flags named bytes is = grind (arith, same_base)
 
 pub end_one : (group : Group) (n : ℕ) (s : ObjectSection) (named : Option Group) → is_of group named ≡ true → end_with group n s named ≡ next_multiple (alignment s.flags) n + length s.bytes
-end_one group n s None is = cc
-end_one group n s (Some other) is = rw is refl
+end_one group n s named is = grind arith
 
 pub address_one : (group : Group) (b : Bases) (flags : ℕ) (named : Option Group) (value : ℕ) → is_of group named ≡ true →
     address_at (address_after b flags named) value ≡ Some (next_multiple (alignment flags) (base_of group b) + value)
-address_one group b flags None value is = cc
-address_one group b flags (Some other) value is = rw (same_base group other b is) refl
+address_one group b flags named value is = grind (arith, same_base)
 
 -- what one_of gives
 pub one_is : (xs : List ObjectSection) (s : ObjectSection) → one_of xs ≡ Some s → (xs ≡ s ∷ []) × (fits_four s ≡ true)
-one_is [] s is = cc
-one_is (x ∷ []) s is = grind arith
-one_is (x ∷ y ∷ xs) s is = cc
+one_is xs s is = grind arith
 
 -- Objects without sections of a group, and with one.
 
@@ -176,22 +169,11 @@ IsCarried HintNames = Unit {0}
 IsCarried DllNames = Unit {0}
 
 texts_group : (named : Option Group) → holds_texts named ≡ true → (group : Group) × (IsCarried group × (is_of group named ≡ true))
-texts_group None is = cc
-texts_group (Some Descriptors) is = cc
-texts_group (Some DirectoryEnds) is = cc
-texts_group (Some Lookups) is = cc
-texts_group (Some Addresses) is = cc
-texts_group (Some HintNames) is = (HintNames, (tt, refl))
-texts_group (Some DllNames) is = (DllNames, (tt, refl))
+texts_group named is = grind arith
 
 pub carried : (machine : MachineType) (linked : List Placed) (image : List Range) (b : Bases) (objects : List Object) (group : Group) → IsCarried group → LocatedFrom machine linked image b objects →
     BytesAt image (base_of group b) (filled (base_of group b) (contributions machine linked group (placed_from b objects)))
-carried machine linked image b objects Descriptors is located = located.descriptors
-carried machine linked image b objects DirectoryEnds is located = absurd is
-carried machine linked image b objects Lookups is located = located.lookups
-carried machine linked image b objects Addresses is located = located.addresses
-carried machine linked image b objects HintNames is located = located.hint_names
-carried machine linked image b objects DllNames is located = located.dll_names
+carried machine linked image b objects group is located = grind arith
 
 -- Bytes.
 
@@ -199,22 +181,13 @@ drop_located : (image : List Range) (n : ℕ) (bytes : List ℕ) (a : ℕ) → B
 unfolding BytesAt
 drop_located image zero bytes a located = subst (λ m. BytesAt image m bytes) (omega arith) located
 drop_located image (suc n) [] a located = tt
-drop_located image (suc n) (x ∷ bytes) a located =
-    let same : a + 1 + n ≡ a + suc n = omega arith in
-    subst (λ m. BytesAt image m (drop n bytes)) same (drop_located image n bytes (a + 1) located.1)
+drop_located image (suc n) (x ∷ bytes) a located = grind (arith, drop_located image n bytes (a + 1) located.1)
 
 pub ended_is : (bytes text : List ℕ) → before_nul bytes ≡ Some text → (rest : List ℕ) × ((bytes ≡ text ++ 0 ∷ rest) × HasNoNul text)
 unfolding before_nul
 ended_is [] text is = cc
 ended_is (zero ∷ bytes) text is = let same : [] ≡ text = cc in (bytes, (ap (λ t. t ++ 0 ∷ bytes) same, ap (holds 0) (sym same)))
 ended_is (suc n ∷ bytes) text is = grind (arith, ended_is bytes)
-
-u16_is : (low high : ℕ) → low < 256 → high < 256 → u16_bytes (low + 256 * high) ≡ low ∷ high ∷ []
-unfolding u16_bytes
-u16_is low high small below = grind arith
-
-hint_small : (low high : ℕ) → low < 256 → high < 256 → low + 256 * high < 2 ^ 16
-hint_small low high small below = omega arith
 
 pub field_is : (machine : MachineType) (offset : ℕ) (r : Relocation) → is_field machine offset r ≡ true → ((r.kind == image_relative machine) ≡ true) × (r.offset ≡ offset)
 field_is machine offset r is = grind arith
@@ -228,8 +201,7 @@ module _ (machine : MachineType) (linked : List Placed) (image : List Range) (st
   -- the bytes that a symbol of its own leads to
   plain_bytes : (x : ObjectSection) (relocations : List Relocation) (value : ℕ) (bytes : List ℕ) → bytes_from x relocations value ≡ Some bytes →
       (relocations ≡ []) × ((holds_texts (group_named x.name) ≡ true) × (drop value x.bytes ≡ bytes))
-  plain_bytes x [] value bytes is = grind arith
-  plain_bytes x (r ∷ relocations) value bytes is = cc
+  plain_bytes x relocations value bytes is = grind arith
 
   in_section : (k value : ℕ) (bytes : List ℕ) (found : Option ObjectSection) → slice_get o.sections k ≡ found → option_and_then (λ (x : ObjectSection). bytes_from x x.relocations value) found ≡ Some bytes →
       (a : ℕ) × ((address_in (section_addresses_of b o.sections) (suc k) value ≡ Some a) × BytesAt image a bytes)
@@ -244,20 +216,15 @@ module _ (machine : MachineType) (linked : List Placed) (image : List Range) (st
 
   in_numbered : (number value : ℕ) (bytes : List ℕ) → option_and_then (λ (x : ObjectSection). bytes_from x x.relocations value) (section_numbered o.sections number) ≡ Some bytes →
       (a : ℕ) × ((address_in (section_addresses_of b o.sections) number value ≡ Some a) × BytesAt image a bytes)
-  in_numbered zero value bytes is = cc
-  in_numbered (suc k) value bytes is = in_section k value bytes (slice_get o.sections k) refl is
+  in_numbered number value bytes is = grind (arith, in_section)
 
   own_located : (found : Option Entry) (bytes : List ℕ) → own_bytes o found ≡ Some bytes → (a : ℕ) × ((option_and_then (symbol_address linked p) found ≡ Some a) × BytesAt image a bytes)
-  own_located None bytes is = cc
-  own_located (Some (Auxiliary other)) bytes is = cc
   own_located (Some (ASymbol s)) bytes is =
       elim (cases_Bool (is_undefined_external s)) [
         | inl left ↦ let none : None ≡ Some bytes = rw left at is in cc
-        | inr own ↦
-            let here : bytes_at_symbol o s ≡ Some bytes = rw own at is in
-            let found = in_numbered s.section s.value bytes here in
-            (found.0, (rw own found.1.0, found.1.1))
+        | inr own ↦ grind (arith, in_numbered s.section s.value bytes (rw own at is))
       ]
+  own_located found bytes is = cc
 
   -- those at a symbol that it defines for others
   pub named_located : (name : List ℕ) (entries : List Entry) (bytes : List ℕ) → named_bytes_in o name entries ≡ Some bytes →
@@ -292,6 +259,7 @@ module _ (machine : MachineType) (linked : List Placed) (image : List Range) (st
 
   hint_located : (bytes : List ℕ) (ask : Ask) (place a : ℕ) → hint_and_name bytes ≡ Some ask → BytesAt image place bytes →
       BytesAt image a (u32_bytes ((0 + (place + 0)) % 2 ^ 32) ++ zeros (thunk_width machine - 4)) → StrictThunkAt image (thunk_width machine) a ask
+  unfolding u16_bytes
   hint_located [] ask place a is held here = cc
   hint_located (low ∷ []) ask place a is held here = cc
   hint_located (low ∷ high ∷ bytes) ask place a is held here =
@@ -305,11 +273,11 @@ module _ (machine : MachineType) (linked : List Placed) (image : List Range) (st
       named small below (Some text) at is =
           let ended = ended_is bytes text at in
           let hint : List ℕ = u16_bytes (low + 256 * high) in
-          let whole : low ∷ high ∷ bytes ≡ (hint ++ (text ++ 0 ∷ [])) ++ ended.0 = grind (arith, append_assoc, u16_is) in
+          let whole : low ∷ high ∷ bytes ≡ (hint ++ (text ++ 0 ∷ [])) ++ ended.0 = grind (arith, append_assoc) in
           let front = located_parts image (hint ++ (text ++ 0 ∷ [])) ended.0 place (subst (BytesAt image place) whole held) in
           let same : Name text (low + 256 * high) ≡ ask = cc in
           subst (StrictThunkAt image (thunk_width machine) a) same
-          (name_located machine image starts ends text (low + 256 * high) place a (hint_small low high small below) ended.1.1 here front.0)
+          (name_located machine image starts ends text (low + 256 * high) place a (omega arith) ended.1.1 here front.0)
 
   asked : (a : ℕ) (bytes : List ℕ) (relocations : List Relocation) (ask : Ask) → ask_of machine o bytes relocations ≡ Some ask → BytesAt image a (relocated machine linked p relocations bytes) →
       StrictThunkAt image (thunk_width machine) a ask × (length bytes ≡ thunk_width machine)
@@ -359,8 +327,7 @@ module _ (machine : MachineType) (linked : List Placed) (image : List Range) (st
           (thunk.0, only.1 ∙ ap (λ n. base_of group b + n) thunk.1)
 
   none_left : (relocations : List Relocation) → has_none relocations ≡ true → relocations ≡ []
-  none_left [] is = refl
-  none_left (r ∷ relocations) is = cc
+  none_left relocations is = grind arith
 
   -- the tail's
   pub null_located : (group : Group) → IsCarried group → base_of group b % 4 ≡ 0 → null_thunk_of machine (only_section group o) ≡ true →

@@ -1,5 +1,5 @@
 -- What a linker takes of the members for GNU's linker.
-use Rattle.std.proofs.Common.{◌≡◌, ℕ, zero, suc, ◌+◌, Bool, length, true, List, [], ◌∷◌, ◌++◌, Option, Some, None, refl, ap, sym, ◌∙◌, subst, inl, inr, ◌⊎◌, arith, map, ◌≤◌, false, if◌then◌else◌}
+use Rattle.std.proofs.Common.{◌≡◌, ℕ, suc, ◌+◌, Bool, length, true, List, [], ◌∷◌, ◌++◌, Option, Some, None, refl, ap, sym, ◌∙◌, subst, inl, inr, ◌⊎◌, arith, map, ◌≤◌, false, if◌then◌else◌}
 use Rattle.std.specs.Prelude.{bytes_eq, slice_get, reverse, IsPermutation}
 use Rattle.std.specs.List.{filter, filter_map, list_any, AllByRecursion, IsDistinct, flat_map, sum_by}
 use Rattle.std.proofs.lemmas.Bool.{cases_Bool, false_from_ne_true}
@@ -38,20 +38,18 @@ use Rattle.implib.proofs.Link.LinkedBlocks.{linked_symbols}
 -- one export's specifications are among those of all
 pub numbered_in : (machine : MachineType) (dll : List ℕ) (exports : List ExportView) (start n : ℕ) (e : ExportView) (p : MemberSpec) → slice_get exports n ≡ Some e →
     Among p (numbered_specs_of machine dll (start + n) e) → Among p (numbered_specs machine dll start exports)
-numbered_in machine dll [] start n e p is held = cc
-numbered_in machine dll (x ∷ exports) start zero e p is held = grind (arith, among_front)
 numbered_in machine dll (x ∷ exports) start (suc n) e p is held =
     among_back p (numbered_specs_of machine dll start x) (numbered_specs machine dll (start + 1) exports)
     (numbered_in machine dll exports (start + 1) n e p is (subst (λ n. Among p (numbered_specs_of machine dll n e)) (omega arith) held))
+numbered_in machine dll exports start n e p is held = grind (arith, among_front)
 
 -- The numbers of wanted exports.
 
 pub number_wanted : (wanted : List (List ℕ)) (exports : List ExportView) (start n : ℕ) (e : ExportView) → slice_get exports n ≡ Some e → is_wanted wanted e ≡ true →
     Among (start + n) (numbers_passing (is_wanted wanted) start exports)
 unfolding Among
-number_wanted wanted [] start n e is want = cc
-number_wanted wanted (x ∷ exports) start zero e is want = grind arith
 number_wanted wanted (x ∷ exports) start (suc n) e is want = grind (arith, number_wanted wanted exports (start + 1))
+number_wanted wanted exports start n e is want = grind arith
 
 pub wanted_number : (wanted : List (List ℕ)) (exports : List ExportView) (start k : ℕ) → Among k (numbers_passing (is_wanted wanted) start exports) →
     (n : ℕ) × (e : ExportView) × (k ≡ start + n) × (slice_get exports n ≡ Some e) × (is_wanted wanted e ≡ true)
@@ -101,13 +99,9 @@ abbrev pub Chosen : MachineType → List ℕ → List ExportView → List ℕ �
 Chosen machine dll exports chosen p =
     (n : ℕ) × (e : ExportView) × Among n chosen × (slice_get exports n ≡ Some e) × (p ≡ export_spec machine dll n e)
 
-mapped_some : {X Y : Type 0} (f : X → Y) (o : Option X) (y : Y) → option_map f o ≡ Some y → (x : X) × (o ≡ Some x) × (y ≡ f x)
-mapped_some f None y is = cc
-mapped_some f (Some x) y is = (x, refl, sym (same_Some (f x) y is))
-
 pub chosen_member_spec : (machine : MachineType) (dll : List ℕ) (exports : List ExportView) (chosen : List ℕ) (p : MemberSpec) →
     Among p (filter_map (numbered_spec machine dll exports) chosen) → Chosen machine dll exports chosen p
-chosen_member_spec machine dll exports chosen p held = grind (arith, kept_from, mapped_some)
+chosen_member_spec machine dll exports chosen p held = grind (arith, kept_from)
 
 -- What the members leave to others, claim, and are listed for.
 
@@ -279,9 +273,8 @@ module _ (machine : MachineType) where
 
   pub group_is_export : (l : Library) (exports : List ExportView) (start n : ℕ) (e : ExportView) → slice_get exports n ≡ Some e → Among (export_group l (start + n) e) (export_groups l start exports)
   unfolding Among export_groups
-  group_is_export l [] start n e is = cc
-  group_is_export l (x ∷ exports) start zero e is = grind (arith, among_back)
   group_is_export l (x ∷ exports) start (suc n) e is = grind (arith, group_is_export l exports (start + 1) n e is, among_front)
+  group_is_export l exports start n e is = grind (arith, among_back)
 
 -- The members of a library for GNU's linker: which of an export's a name finds, and what they are read as.
 
@@ -303,10 +296,6 @@ imp_symbols e = own_symbols e (imp_symbol e.name) (address_listed e)
 pub alias_symbols : (e : ExportView) → is_alias e.alias_target e.name ≡ true → Among e.name (symbols_of_export e)
 unfolding Among
 alias_symbols e alias = elim (cases_Bool e.is_data) [ inl is ↦ rw (is, alias) (inl refl) | inr is ↦ rw is (inl refl) ]
-
-code_listed : (e : ExportView) → e.is_data ≡ false → Among e.name (archive_symbols e)
-unfolding Among
-code_listed e is = rw is (inl refl)
 
 data_not_listed : (e : ExportView) → e.is_data ≡ true → Among e.name (archive_symbols e) → ⊥
 data_not_listed e is held = grind (arith, no_address, only_one)
@@ -361,6 +350,7 @@ module _ (machine : MachineType) where
   finds_own l n e name m found listed = FindsOwn (same_Some m (export_of machine l n e) (sym found ∙ own_first l n e name listed)) listed
 
   pub in_export : (l : Library) (n : ℕ) (e : ExportView) (name : List ℕ) (m : MemberView) → first_listed (export_group machine l n e).members name ≡ Some m → InExport l n e name m
+  unfolding Among
   in_export l n e name m found =
       let there = listed_is (export_group machine l n e).members name m found in
       by (member_is l n e m there.0) there.1
@@ -375,7 +365,7 @@ module _ (machine : MachineType) where
           let same : name ≡ e.name = only_one name e.name (subst (λ (y : MemberView). Among name y.symbols) is listed) in
           elim (cases_Bool e.is_data) [
             | inl is_data ↦ FindsWeak alias is_data same is
-            | inr is_code ↦ finds_own l n e name m found (subst (λ n. Among n (archive_symbols e)) (sym same) (code_listed e is_code))
+            | inr is_code ↦ finds_own l n e name m found (subst (λ n. Among n (archive_symbols e)) (sym same) (rw is_code (inl refl)))
           ]
 
   -- Each group's members are listed for no other symbols.

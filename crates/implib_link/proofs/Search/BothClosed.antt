@@ -1,5 +1,5 @@
 -- A closed program of an archive of both flavours links, however a linker reads members.
-use Rattle.std.proofs.Common.{rules, arith, ◌≡◌, ℕ, ◌+◌, ◌*◌, ◌⊎◌, Bool, true, false, List, [], ◌∷◌, ◌++◌, Option, Some, refl, ap, sym, ◌∙◌, subst, inl, inr}
+use Rattle.std.proofs.Common.{rules, arith, ◌≡◌, ℕ, ◌+◌, ◌*◌, ◌⊎◌, Bool, true, false, List, [], ◌∷◌, ◌++◌, Option, Some, refl, sym, ◌∙◌, subst, inl, inr}
 use Rattle.std.specs.Prelude.{◌<◌, ◌^◌, IsPermutation, not, slice_get}
 use Rattle.std.specs.List.{AllByRecursion, Contains, filter}
 use Rattle.std.proofs.lemmas.Bool.{true≢false, not_from_false}
@@ -38,8 +38,7 @@ use Rattle.implib_link.proofs.Search.Taken.{Why, as_other, both_taken, each_firs
 -- a symbol of an export's own member is that of its address, or its name, where it is no data
 of_symbol : (flavor : Flavor) (e : ExportView) (name : List ℕ) → Among name (symbols_in flavor e) → (name ≡ imp_symbol (symbol_in flavor e)) ⊎ ((name ≡ symbol_in flavor e) × (e.is_data ≡ false))
 unfolding Among
-of_symbol Msvc e name listed = by_symbol e name listed
-of_symbol Gnu e name listed = grind arith
+of_symbol flavor e name listed = grind (arith, by_symbol)
 
 -- What is taken for given objects, and what is linked with them, wherever it is placed.
 pub record AreClosedAs (machine : MachineType) (reads : List ℕ → Option Object) (weak : MemberView → Bool) (libraries : List FlavorLibrary) (own : List Object) (taken : List MemberView) (arranged : List FlavorLibrary)
@@ -187,11 +186,7 @@ module _ (machine : MachineType) (libraries : List FlavorLibrary) (archive : IsF
     resolved_by l (Own n e) name m want at held so same listed weak_one = inl (of_own l n e name held so listed want)
     resolved_by l (Weak n e b) name m want at held so same listed weak_one =
         let there : Among m taken = reached reads members weak taken first_each (unresolved own) takes name m at (still_named reads members weak taken first_each (unresolved own) name want) in
-        inr (
-          m,
-          among_contains m (filter weak taken) (passes weak m taken there weak_one),
-          ap (λ (y : MemberView). y.symbols) same ∙ listed_as machine l.flavor l.library (Weak n e b) ∙ ap (λ x. x ∷ []) (sym (only_one name _ listed)),
-        )
+        grind (arith, among_contains m (filter weak taken) (passes weak m taken there weak_one), same, listed_as machine l.flavor l.library (Weak n e b), only_one name _ listed)
 
     pub resolved : (name : List ℕ) → Contains wanted name → Contains (listed_in (archive_of_both libraries)) name → Resolved name
     resolved name want listed =
@@ -265,10 +260,7 @@ module _ (machine : MachineType) (libraries : List FlavorLibrary) (archive : IsF
     pub by_linker : IsEnded machine OfLinker own taken arranged objects
     by_linker = record {
       linked = all_here;
-      from = λ o held. elim (among_either o (objects_in all_here) (null_descriptor ∷ []) (subst (Among o) e.tables held)) [
-        | inl one ↦ inl (subst (Among o) (sym same) one)
-        | inr null ↦ inr (only_one o null_descriptor null)
-      ];
+      from = λ o held. grind (arith, among_either, same, only_one);
       into = λ o held. subst (Among o) (sym e.tables) (among_front o (objects_in all_here) (null_descriptor ∷ []) (subst (Among o) same held));
       are_taken = member_other machine libraries archive reads weak (expands machine libraries archive) own taken arranged objects closed_as;
       are_linked = λ m held. grind (arith, other_from machine libraries archive reads weak (expands machine libraries archive) own taken arranged objects closed_as m held, expands machine libraries archive, held, no_null);
@@ -286,8 +278,7 @@ module _ (machine : MachineType) (libraries : List FlavorLibrary) (archive : IsF
     null_library : (y : Library) × Among (in_flavor Msvc y) libraries × AnyOf wanted_here (in_flavor Msvc y) × (e.null_from.input.definition ≡ y.definition)
     null_library =
         let one = input_is wanted_here arranged e.null_from (contains_among e.null_from inputs_here e.null_held) in
-        by one.0.flavor one.0.library (ap (λ (p : FlavorInput). p.flavor) (sym one.2) ∙ e.null_flavor)
-        (among_moved one.0 arranged libraries (IsPermutation-sym libraries arranged closed_as.order) one.1) one.3 (ap (λ (p : FlavorInput). p.input.definition) one.2)
+        grind (arith, among_moved one.0 arranged libraries (IsPermutation-sym libraries arranged closed_as.order) one.1)
       where
         by : (flavor : Flavor) (x : Library) → flavor ≡ Msvc → Among (in_flavor flavor x) libraries → AnyOf wanted_here (in_flavor flavor x) → e.null_from.input.definition ≡ x.definition → (y : Library) × Among (in_flavor Msvc y) libraries × AnyOf wanted_here (in_flavor Msvc y) × (e.null_from.input.definition ≡ y.definition)
         by Gnu x is held any own = cc

@@ -90,8 +90,7 @@ some_input names l any = grind (arith, input_if l.flavor names l.library, export
 
 some_number : (flavor : Flavor) (names : List (List ℕ)) (l : Library) (n : ℕ) (chosen : List ℕ) → numbers_in flavor names l ≡ n ∷ chosen →
     (e : ExportView) × (Among e (exports_of l) × (is_chosen flavor names e ≡ true))
-some_number Msvc names l n chosen is = some_export (is_import_wanted names) 0 (exports_of l) n chosen is
-some_number Gnu names l n chosen is = some_export (is_wanted names) 0 (exports_of l) n chosen is
+some_number flavor names l n chosen is = grind (arith, some_export)
 
 input_some : (names : List (List ℕ)) (l : FlavorLibrary) (p : FlavorInput) → flavor_input names l.flavor l.library ≡ Some p → (p ≡ input_in names l) × AnyOf names l
 input_some names l p is = by (numbers_in l.flavor names l.library) refl (sym (input_if l.flavor names l.library) ∙ is)

@@ -124,10 +124,7 @@ module _ (reads : List ℕ → Option Object) (archive : List MemberView) (own :
 
   pub takes_into : (taken : List MemberView) → ((name : List ℕ) → Among name (flat_map undefined_in (objects_as reads taken)) → Among name (flat_map claimed_names own) → ⊥) →
       TakesAs reads archive (unresolved own) taken → TakesIntoAs reads archive own taken
-  takes_into taken apart takes = record {
-    in_turn = in_turn_into taken taken (λ m held. held) apart takes.in_turn;
-    ended = λ name m pulls. takes.ended name m (pulls_for taken name m pulls);
-  }
+  takes_into taken apart takes = grind (arith, in_turn_into, pulls_for)
 
 -- where they claim nothing that members which are taken are listed for or leave to others
 pub takes_apart : (reads : List ℕ → Option Object) (archive : List MemberView) (own : List Object) (taken : List MemberView) → AllByRecursion (ClaimsNone (listed_in taken ++ left_as reads taken)) own →
@@ -212,8 +209,7 @@ module _ (reads : List ℕ → Option Object) (archive : List MemberView) where
     -- and the other way round
     pub listed_claimed : (name : List ℕ) (m : MemberView) → Among m taken → Among name m.symbols → Among name (flat_map claimed_names (objects_as reads taken))
     listed_claimed name m held listed =
-        let one = each_first m held in
-        as_name reads claimed_names name taken m one.object held one.read (subst (Among name) (sym one.claims) listed)
+        grind (arith, as_name reads claimed_names name taken m (each_first m held).object held (each_first m held).read (subst (Among name) (sym (each_first m held).claims) listed))
 
     -- a name is listed for a member that is taken and is no weak external
     abbrev pub IsListed : List ℕ → Type 0
@@ -323,16 +319,12 @@ module _ (reads : List ℕ → Option Object) (archive : List MemberView) where
             | inr member ↦ member_object f name (name_as reads f name taken member)
           ]
 
-      -- a name that the program leaves is left by what is given and taken
-      pub still_unresolved : (name : List ℕ) → Contains (unresolved objects) name → Among name (unresolved (own ++ objects_as reads taken))
-      unfolding undefined_in
-      still_unresolved name left = grind (arith, unresolved_parts, contains_among, unresolved_from, from_sources, into_objects)
-
       -- no name is left that the archive lists
       pub none_left : TakesIntoAs reads archive own taken → (name : List ℕ) → Contains (unresolved objects) name → Contains (listed_in archive) name → ⊥
+      unfolding undefined_in
       none_left takes name left listed =
           let at = first_of name archive (contains_among name (listed_in archive) listed) in
-          let named : Among name (unresolved (own ++ objects_as reads taken)) = still_unresolved name left in
+          let named : Among name (unresolved (own ++ objects_as reads taken)) = (grind (arith, unresolved_parts, contains_among, unresolved_from, from_sources, into_objects)) in
           takes.ended name at.0 (record {
             named = among_contains name (unresolved (own ++ objects_as reads taken)) named;
             listed = at.1;

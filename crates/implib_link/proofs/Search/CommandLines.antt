@@ -38,13 +38,10 @@ left_on own later taken name none left = grind (arith, unresolved_parts, unresol
 listed_name : (members : List MemberView) (numbers : List ℕ) (n : ℕ) (m : MemberView) (name : List ℕ) → slice_get members n ≡ Some m → Among n numbers → Among name m.symbols → Among name (listed_at members numbers)
 listed_name members numbers n m name at held listed = among_listed name m (members_at members numbers) (number_taken members numbers n m held at) listed
 
-members_more : (members : List MemberView) (first later : List ℕ) (m : MemberView) → Among m (members_at members first) → Among m (members_at members (first ++ later))
-members_more members first later m held = search (rules, taken_number members first m held, number_taken, among_front)
-
 listed_more : (members : List MemberView) (first later : List ℕ) (name : List ℕ) → Among name (listed_at members first) → Among name (listed_at members (first ++ later))
 listed_more members first later name held =
     let from = among_flat_map (λ (m : MemberView). m.symbols) name (members_at members first) held in
-    among_listed name from.0 (members_at members (first ++ later)) (members_more members first later from.0 from.1) from.2
+    among_listed name from.0 (members_at members (first ++ later)) (search (rules, taken_number members first from.0 from.1, number_taken, among_front)) from.2
 
 -- no name that is listed is claimed by later objects
 pub unclaimed_later : (members : List MemberView) (read : List ℕ) (inputs : List Input) → AreUnclaimedBehind members read inputs → (name : List ℕ) → Among name (listed_at members read) →
@@ -318,11 +315,6 @@ module _ (reads : List ℕ → Option Object) (members : List MemberView) where
   -- Two searches of one list take the same.
 
   module _ (own : List Object) (whole : AreListedWhole reads members) where
-    -- a member claims the names that it is listed for, and no others
-    claims_listed : (m : MemberView) (name : List ℕ) → Among m members → Among name m.symbols → Among name (claimed_as reads (m ∷ []))
-    claims_listed m name held listed =
-        contains_among name (claimed_as reads (m ∷ [])) ((all_among (λ x. HaveSame (claimed_as reads (x ∷ [])) x.symbols) m members held whole name).1 (among_contains name m.symbols listed))
-
     listed_claims : (m : MemberView) (name : List ℕ) → Among m members → Among name (claimed_as reads (m ∷ [])) → Among name m.symbols
     listed_claims m name held claimed =
         contains_among name m.symbols ((all_among (λ x. HaveSame (claimed_as reads (x ∷ [])) x.symbols) m members held whole name).0 (among_contains name (claimed_as reads (m ∷ [])) claimed))
@@ -336,7 +328,8 @@ module _ (reads : List ℕ → Option Object) (members : List MemberView) where
     claims_there : (some : List MemberView) (m : MemberView) (name : List ℕ) → Among m some → Among m members → Among name m.symbols → Among name (flat_map claimed_names (objects_as reads some))
     unfolding claimed_as Among
     claims_there some m name held there listed =
-        let from = name_as reads claimed_names name (m ∷ []) (claims_listed m name there listed) in
+        let from = name_as reads claimed_names name (m ∷ [])
+        (contains_among name (claimed_as reads (m ∷ [])) ((all_among (λ x. HaveSame (claimed_as reads (x ∷ [])) x.symbols) m members there whole name).1 (among_contains name m.symbols listed))) in
         as_name reads claimed_names name some m from.object held (subst (λ (x : MemberView). reads x.bytes ≡ Some from.object) (only_one from.member m from.held) from.taken) from.among
 
     pub taken_are : (taken : List MemberView) → AreTakenIntoAs reads members own taken → (x : MemberView) → Among x taken → Among x members
@@ -408,14 +401,7 @@ module _ (reads : List ℕ → Option Object) (members : List MemberView) where
       -- names of members' objects, by which list they are in
       names_apart : (f : Object → List (List ℕ)) (some full : List MemberView) (name : List ℕ) → ((x : MemberView) → Among x some → Among x full) → Among name (flat_map f (objects_as reads some)) →
           Among name (flat_map f (objects_as reads (filter is_given full))) ⊎ Among name (flat_map f (objects_as reads (others_of is_given some)))
-      names_apart f some full name are held =
-          let from = name_as reads f name some held in
-          elim (given_or_not some from.member from.held) [
-            | inl given ↦
-                let kept = passing is_given from.member some given in
-                inl (as_name reads f name (filter is_given full) from.member from.object (passes is_given from.member full (are from.member kept.0) kept.1) from.taken from.among)
-            | inr other ↦ inr (as_name reads f name (others_of is_given some) from.member from.object other from.taken from.among)
-          ]
+      names_apart f some full name are held = grind (arith, name_as, given_or_not, passing, as_name)
 
       module _ (full : List MemberView) (are_members : (x : MemberView) → Among x full → Among x members) (first : AreFirst members (names_left reads own full) full) where
         abbrev given_too : List Object

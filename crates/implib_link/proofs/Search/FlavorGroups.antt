@@ -1,5 +1,5 @@
 -- Libraries for GNU's linker that are named apart are an archive.
-use Rattle.std.proofs.Common.{rules, ◌≡◌, ℕ, ◌+◌, ◌≤◌, ◌⊎◌, true, false, List, [], ◌∷◌, ◌++◌, map, refl, ap, sym, ◌∙◌, subst, inl, inr, arith, codes, Some, Bool, Option}
+use Rattle.std.proofs.Common.{rules, ◌≡◌, ℕ, ◌+◌, ◌≤◌, true, false, List, [], ◌∷◌, ◌++◌, map, refl, ap, sym, ◌∙◌, subst, inl, inr, arith, codes, Some, Bool, Option}
 use Rattle.std.specs.Prelude.{bytes_eq, reverse, slice_get}
 use Rattle.std.specs.List.{AllByRecursion, IsDistinct, flat_map, list_any, cons_option}
 use Rattle.std.proofs.lemmas.Bool.{cases_Bool, false_from_ne_true, true≢false}
@@ -35,29 +35,13 @@ use Rattle.implib_link.specs.Flavors.Program.{IsFoundByName}
 
 -- Symbols that differ by their first bytes.
 
-first_byte : (x y : ℕ) (xs ys : List ℕ) → x ∷ xs ≡ y ∷ ys → x ≡ y
-first_byte x y xs ys same = cc
-
-later_bytes : (x y : ℕ) (xs ys : List ℕ) → x ∷ xs ≡ y ∷ ys → xs ≡ ys
-later_bytes x y xs ys same = cc
-
-two_numbers : (x y n m : ℕ) → x ≡ y → x ≡ n → y ≡ m → n + 1 ≤ m ⊎ m + 1 ≤ n → ⊥
-two_numbers x y n m same is other h7 = grind arith
-
-h_is_no_i : (xs ys : List ℕ) → 0x68 ∷ xs ≡ 0x69 ∷ ys → ⊥
-h_is_no_i xs ys same = two_numbers 0x68 0x69 0x68 0x69 (first_byte 0x68 0x69 xs ys same) refl refl (inl (omega arith))
-
 tail_no_head : (machine : MachineType) (dll other : List ℕ) → begins_plain (mangled_name dll) ≡ true → iname_symbol machine dll ≡ head_symbol machine other → ⊥
 unfolding iname_symbol head_symbol
 tail_no_head machine dll other plain same = grind (arith, same, codes, append_cancel_left)
 
 tail_no_imp : (machine : MachineType) (dll name : List ℕ) → begins_plain (mangled_name dll) ≡ true → iname_symbol machine dll ≡ imp_symbol name → ⊥
 unfolding iname_symbol
-tail_no_imp machine dll name plain same = grind (arith, later_bytes)
-
-head_no_imp : (machine : MachineType) (dll name : List ℕ) → head_symbol machine dll ≡ imp_symbol name → ⊥
-unfolding head_symbol
-head_no_imp machine dll name same = grind (arith, h_is_no_i, later_bytes)
+tail_no_imp machine dll name plain same = grind arith
 
 -- Texts that differ where others do.
 
@@ -98,9 +82,7 @@ module _ (machine : MachineType) where
   library_count name [] = omega arith
   library_count name (l ∷ libraries) =
       let behind = library_count name libraries in
-      let turned : times name (flat_map symbols_of_export (reverse (exports_of l))) ≡ times name (flat_map symbols_of_export (exports_of l)) = grind (arith, times_moved symbols_of_export name (exports_of l) (reverse (exports_of l)) (IsPermutation-reverse (exports_of l))) in
-      let few = exports_count name (exports_of l) in
-      grind (arith, times, times_both, map-append)
+      grind (arith, times_moved symbols_of_export name (exports_of l) (reverse (exports_of l)) (IsPermutation-reverse (exports_of l)), exports_count name (exports_of l), times, times_both, map-append)
 
   module _ (libraries : List Library) (apart : AreNamedApart machine libraries) where
     abbrev tails : List (List ℕ)
@@ -131,22 +113,20 @@ module _ (machine : MachineType) where
     head_of_among : (name : List ℕ) → Among name heads → (l : Library) × Among l libraries × (name ≡ head_symbol machine (linked_name l.definition))
     head_of_among name held = among_mapped (λ (l : Library). head_symbol machine (linked_name l.definition)) name libraries held
 
-    tail_of_among : (name : List ℕ) → Among name tails → (l : Library) × Among l libraries × (name ≡ iname_symbol machine (linked_name l.definition))
-    tail_of_among name held = among_mapped (λ (l : Library). iname_symbol machine (linked_name l.definition)) name libraries held
-
     heads_and_others : IsDistinct bytes_eq (heads_of machine libraries ++ (names_in libraries ++ map imp_symbol (names_in libraries)))
+    unfolding head_symbol
     heads_and_others =
         distinct_join heads (names ++ imps) (distinct_mapped stem (λ (l : Library). head_symbol machine (linked_name l.definition)) (stem_of_head machine) libraries apart.stems) names_and_imps
         (λ name held there. elim (among_either name names imps there) [
           | inl own ↦ plain_name name own (among_back name tails (heads ++ imps) (among_front name heads imps held))
-          | inr imp ↦ grind (arith, head_of_among, held, among_mapped, head_no_imp)
+          | inr imp ↦ grind (arith, head_of_among, held, among_mapped)
         ])
 
     all_differ : IsDistinct bytes_eq (tails_of machine libraries ++ (heads_of machine libraries ++ (names_in libraries ++ map imp_symbol (names_in libraries))))
     all_differ =
         distinct_join tails (heads ++ (names ++ imps)) (distinct_mapped stem (λ (l : Library). iname_symbol machine (linked_name l.definition)) (stem_of_tail machine) libraries apart.stems) heads_and_others
         (λ name held there.
-        let l = tail_of_among name held in
+        let l = (among_mapped (λ (l : Library). iname_symbol machine (linked_name l.definition)) name libraries held) in
         elim (among_either name heads (names ++ imps) there) [
           | inl head ↦ let k = head_of_among name head in tail_no_head machine (linked_name l.0.definition) (linked_name k.0.definition) (begins l.0 l.1) (sym l.2 ∙ k.2)
           | inr others ↦ grind (arith, among_either name names imps others, among_front name tails (heads ++ imps) held, begins l.0 l.1, others, plain_name, held, among_mapped, tail_no_imp)
@@ -273,13 +253,7 @@ module _ (machine : MachineType) where
       OfExport own.0 own.1 own.2 (own.3 ∙ ap (λ n. export_group machine l n own.1) (omega arith))
 
   role_there : (flavor : Flavor) (l : Library) (r : Role) → IsEnd r → Among (role_group flavor l r) (groups_in flavor l)
-  role_there Msvc l Top end = among_first _ _
-  role_there Msvc l Last end = among_later _ _ _ (among_first _ _)
-  role_there Gnu l Last end = among_first _ _
-  role_there Gnu l Top end = among_later _ _ _ (among_first _ _)
-  role_there flavor l Null end = absurd end
-  role_there flavor l (Own n e) end = absurd end
-  role_there flavor l (Weak n e b) end = absurd end
+  role_there flavor l r end = grind (arith, among_first, among_later)
 
   export_there : (flavor : Flavor) (l : Library) (n : ℕ) (e : ExportView) → slice_get (exports_of l) n ≡ Some e → Among (group_of flavor l n e) (groups_in flavor l)
   export_there Msvc l n e is = among_later _ _ _ (among_later _ _ _ (among_map (short_group machine l) e (exports_of l) (among_at e (exports_of l) n is)))
@@ -373,20 +347,17 @@ module _ (machine : MachineType) (libraries : List FlavorLibrary) (archive : IsF
   abbrev shorts : List Library
   shorts = msvc_among libraries
 
-  shorts_differ : (ls : List Library) → IsDistinct bytes_eq (null_descriptor_symbol ∷ flat_map symbols_of_shorts ls) → IsDistinct bytes_eq (symbols_of_all_shorts ls)
-  unfolding IsDistinct
-  shorts_differ ls distinct = grind arith
-
   with_null : (name : List ℕ) (ls : List Library) → times name (symbols_of_all_shorts ls) ≡ times name (null_of ls) + times name (flat_map symbols_of_shorts ls)
   unfolding times
   with_null name ls = grind (arith, times_both)
 
   -- the symbols of all libraries and the null descriptor's
   pub few : (name : List ℕ) → times name (null_of shorts) + times name (of_libraries machine libraries) ≤ 1
+  unfolding IsDistinct
   few name =
       let gnu : List (List ℕ) = flat_map (symbols_of_library machine) (gnu_among libraries) in
       let gnu_once : times name gnu ≤ 1 = few_from gnu archive.gnu.distinct name in
-      let short_once : times name (symbols_of_all_shorts (msvc_among libraries)) ≤ 1 = few_from (symbols_of_all_shorts shorts) (shorts_differ shorts archive.msvc.distinct) name in
+      let short_once : times name (symbols_of_all_shorts (msvc_among libraries)) ≤ 1 = few_from (symbols_of_all_shorts shorts) (grind arith) name in
       elim (cases_Bool (list_any (bytes_eq name) gnu)) [
         | inl there ↦ grind (arith, with_null name shorts, sums machine name libraries, times name (symbols_of_all_shorts (msvc_among libraries)), any_among name gnu there, none_times, all_among)
         | inr none_there ↦ (let none : times name gnu ≡ 0 = none_times name gnu none_there in omega (arith, with_null name shorts, sums machine name libraries))
@@ -533,14 +504,13 @@ module _ (machine : MachineType) (libraries : List FlavorLibrary) (archive : IsF
       Among name (symbols machine flavor l r) → first_listed (archive_of_both libraries) name ≡ Some (member machine flavor l r)
   finds flavor l Top name held is listed = role_finds machine libraries archive flavor l Top name held tt listed
   finds flavor l Last name held is listed = role_finds machine libraries archive flavor l Last name held tt listed
-  finds flavor l Null name held is listed = grind (arith, null_finds, only_one)
   finds Gnu l (Own n e) name held is listed = export_finds machine libraries archive Gnu l n e name _ held is.0 (own_symbols e name listed) (own_first machine l n e name listed)
   finds Msvc l (Own n e) name held is listed = export_finds machine libraries archive Msvc l n e name _ held is.0 (short_symbol e name is.1 listed) (short_first machine l e name is.1 listed)
-  finds Gnu l (Weak n e true) name held is listed = absurd is.1
   finds Gnu l (Weak n e false) name held is listed = search (rules, false, held, is, listed, as_one, export_finds, alias_symbols, weak_first)
   finds Msvc l (Weak n e b) name held is listed =
       as_one name (weak_symbol Msvc e b) _ listed (export_finds machine libraries archive Msvc l n e (weak_symbol Msvc e b) _ held is.0
       (pair_symbol e (weak_symbol Msvc e b) (weak_target e b) is.1 (pair e b)) (pair_first machine l e (weak_symbol Msvc e b) (weak_target e b) is.1 (pair e b)))
+  finds flavor l r name held is listed = grind (arith, null_finds, only_one)
 
   -- A way to read members that takes each of these for its object, and the members that are weak externals by it.
   pub record IsReader (reads : List ℕ → Option Object) (weak : MemberView → Bool) : Type 0 where

@@ -1,5 +1,5 @@
 -- An archive whose listed symbols differ: each name has one member, and what members leave and claim.
-use Rattle.std.proofs.Common.{◌≡◌, ℕ, zero, suc, true, false, List, [], ◌∷◌, ◌++◌, map, Option, Some, None, refl, ap, sym, ◌∙◌, subst, inl, inr, ◌⊎◌, arith, Bool}
+use Rattle.std.proofs.Common.{◌≡◌, ℕ, zero, suc, true, false, List, [], ◌∷◌, ◌++◌, map, Option, Some, refl, ap, sym, ◌∙◌, subst, inl, inr, ◌⊎◌, arith, Bool}
 use Rattle.std.specs.Prelude.{bytes_eq, slice_get, not}
 use Rattle.std.specs.List.{AllByRecursion, Contains, IsDistinct, cons_option, flat_map, list_any, list_all, filter, filter_map}
 use Rattle.std.proofs.lemmas.Bool.{cases_Bool, false_from_ne_true, or_parts, true≢false, and_parts}
@@ -40,8 +40,7 @@ at_index x (y ∷ xs) (inr held) = let later = at_index x xs held in (suc later.
 
 pub among_option : {X : Type 0} (o : Option X) (x : X) (xs : List X) → Among x xs → Among x (cons_option o xs)
 unfolding Among
-among_option None x xs held = held
-among_option (Some y) x xs held = inr held
+among_option o x xs held = grind arith
 
 pub all_parts : {X : Type 0} (P : X → Type 0) (xs ys : List X) → AllByRecursion P (xs ++ ys) → AllByRecursion P xs × AllByRecursion P ys
 all_parts P [] ys all = (tt, all)
@@ -124,11 +123,6 @@ unfolding Among
 among_flat_map f name [] held = absurd held
 among_flat_map f name (x ∷ xs) held = grind (arith, among_flat_map f name xs, among_either name (f x) (flat_map f xs) held)
 
--- what is kept of a list
-pub input_front : {X : Type 0} (o : Option X) (x : X) (xs : List X) → o ≡ Some x → Among x (cons_option o xs)
-input_front None x xs is = cc
-input_front (Some y) x xs is = (let same : x ≡ y = cc in subst (λ z. Among x (z ∷ xs)) same (among_first x xs))
-
 pub kept_from : {X Y : Type 0} (keep : X → Option Y) (xs : List X) (y : Y) → Among y (filter_map keep xs) → (x : X) × Among x xs × (keep x ≡ Some y)
 unfolding Among
 kept_from keep [] y held = absurd held
@@ -137,7 +131,7 @@ kept_from keep (x ∷ rest) y held = grind (arith, kept_from keep rest y)
 pub kept_into : {X Y : Type 0} (keep : X → Option Y) (xs : List X) (y : Y) (x : X) → Among x xs → keep x ≡ Some y → Among y (filter_map keep xs)
 unfolding Among
 kept_into keep [] y x held is = absurd held
-kept_into keep (z ∷ rest) y x (inl same) is = input_front (keep z) y (filter_map keep rest) (subst (λ w. keep w ≡ Some y) same is)
+kept_into keep (z ∷ rest) y x (inl same) is = grind (arith, among_first)
 kept_into keep (z ∷ rest) y x (inr held) is = among_option (keep z) y (filter_map keep rest) (kept_into keep rest y x held is)
 
 -- a name of what a linker reads a member as
@@ -150,10 +144,7 @@ pub record NameAs (reads : List ℕ → Option Object) (f : Object → List (Lis
 
 -- a name of the objects that members are read as is one of the object of some member
 pub name_as : (reads : List ℕ → Option Object) (f : Object → List (List ℕ)) (name : List ℕ) (members : List MemberView) → Among name (flat_map f (objects_as reads members)) → NameAs reads f name members
-name_as reads f name members held =
-    let of = among_flat_map f name (objects_as reads members) held in
-    let by = kept_from (λ (m : MemberView). reads m.bytes) members of.0 of.1 in
-    record { member = by.0; held = by.1; object = of.0; taken = by.2; among = of.2 }
+name_as reads f name members held = grind (arith, among_flat_map, kept_from)
 
 -- and a name of the object of a member is one of theirs
 pub as_name : (reads : List ℕ → Option Object) (f : Object → List (List ℕ)) (name : List ℕ) (members : List MemberView) (m : MemberView) (o : Object) → Among m members → reads m.bytes ≡ Some o → Among name (f o) →
@@ -186,10 +177,7 @@ pub distinct_join : (first later : List (List ℕ)) → IsDistinct bytes_eq firs
 unfolding IsDistinct Among
 distinct_join [] later own behind apart = behind
 distinct_join (x ∷ first) later own behind apart =
-    let none : Among x (first ++ later) → ⊥ = λ held. elim (among_either x first later held) [
-      | inl here ↦ apart_none x first here own.0
-      | inr there ↦ apart x (inl refl) there
-    ] in
+    let none : Among x (first ++ later) → ⊥ = λ held. grind (arith, among_either x first later held, apart_none) in
     (none_same x (first ++ later) none, distinct_join first later own.1 behind (λ name held. apart name (inr held)))
 
 -- each of a list passes a test that all pass

@@ -1,5 +1,5 @@
 -- The members of a library for Microsoft's linker: which of an export's a name finds, and what they are taken for.
-use Rattle.std.proofs.Common.{rules, ◌≡◌, ℕ, true, false, List, [], ◌∷◌, ◌++◌, map, Some, refl, ap, sym, ◌∙◌, subst, inl, inr, ◌⊎◌, ◌<◌, arith, ◌≤◌}
+use Rattle.std.proofs.Common.{rules, ◌≡◌, ℕ, true, false, List, [], ◌∷◌, ◌++◌, map, Some, refl, ap, sym, ◌∙◌, subst, inl, inr, ◌⊎◌, arith, ◌≤◌}
 use Rattle.std.specs.List.{flat_map, filter}
 use Rattle.std.proofs.lemmas.Bool.{cases_Bool, false_from_ne_true}
 use Rattle.std.proofs.lemmas.List.{map-append}
@@ -14,7 +14,7 @@ use Rattle.implib.specs.Members.MsvcMembers.{descriptor_spec, export_specs, head
 use Rattle.implib.specs.Members.WeakExternal.{weak_object, weak_spec}
 use Rattle.implib.proofs.Link.Ranges.{Among, among_back, among_first, among_flat, among_front, all_among}
 use Rattle.implib_link.specs.Flavors.Expansion.{expanded_in, Use, import_object, descriptor_symbol_by_name, with_section_symbols}
-use Rattle.implib_link.specs.Flavors.Program.{claimed_names, has_tables, null_member, objects_taken}
+use Rattle.implib_link.specs.Flavors.Program.{claimed_names, null_member, objects_taken}
 use Rattle.implib_link.specs.Search.Search.{Library, exports_of, first_listed, is_listed_for, undefined_in, has_weak}
 use Rattle.implib_link.specs.Search.Libraries.{IsMsvcLibrary, is_short_alias, symbols_of_short, IsMsvcArchive, first_null, imports_wanted, is_import_wanted, with_first_null, symbols_of_shorts, is_short_wanted}
 use Rattle.implib_link.proofs.Flavors.Block.{asking, symbols_of}
@@ -67,13 +67,11 @@ left_weak machine weak target = refl
 
 one_of_two : (e : ExportView) (name : List ℕ) → Among name (short_import_symbols e) → (name ≡ short_import_symbol e) ⊎ (name ≡ imp_symbol (short_import_symbol e))
 unfolding Among
-one_of_two e name (inl is) = inr is
-one_of_two e name (inr behind) = grind arith
+one_of_two e name is = grind arith
 
 pub pair_symbol : (e : ExportView) (weak target : List ℕ) → is_short_alias e ≡ true → IsPair e weak target → Among weak (symbols_of_short e)
 unfolding Among
-pair_symbol e weak target alias (inl is) = rw alias (inl is.0)
-pair_symbol e weak target alias (inr is) = rw alias (inr (inl is.0))
+pair_symbol e weak target alias is = grind arith
 
 pub short_symbol : (e : ExportView) (name : List ℕ) → is_short_alias e ≡ false → Among name (short_import_symbols e) → Among name (symbols_of_short e)
 short_symbol e name none held = rw none held
@@ -198,8 +196,7 @@ module _ (machine : MachineType) where
 
     pub pair_there : (e : ExportView) (weak target : List ℕ) → is_short_alias e ≡ true → IsPair e weak target → Among (weak_spec machine (linked_dll l.definition) weak target) (weak_specs machine (linked_dll l.definition) e)
     unfolding weak_specs Among
-    pair_there e weak target alias (inl is) = grind arith
-    pair_there e weak target alias (inr is) = grind arith
+    pair_there e weak target alias is = grind arith
 
     pub weak_is : (e : ExportView) (weak target : List ℕ) → Among e (exports_of l) → is_short_alias e ≡ true → IsPair e weak target →
         expanded_in machine (weak_of machine l weak target).bytes ≡ Some (taken_weak machine weak target)
@@ -249,10 +246,6 @@ weak_is_weak machine weak target = refl
 
 -- Which of them hold import tables.
 
-pub null_has : (machine : MachineType) → has_tables (taken_null machine) ≡ true
-unfolding has_tables with_section_symbols object_of null_descriptor entries_of name_text
-null_has machine = refl
-
 -- Archives of libraries for Microsoft's linker: which exports are wanted, what is linked of them, and the null descriptor that they share.
 
 pub import_parts : (names : List (List ℕ)) (e : ExportView) → is_import_wanted names e ≡ true → (is_short_wanted names e ≡ true) × (is_short_alias e ≡ false)
@@ -264,11 +257,7 @@ both_parts names e want none = rw (want, none) refl
 -- a symbol of a short import is that of its address, or its own, where it is no data
 pub by_symbol : (e : ExportView) (name : List ℕ) → Among name (short_import_symbols e) → (name ≡ imp_symbol (short_import_symbol e)) ⊎ ((name ≡ short_import_symbol e) × (e.is_data ≡ false))
 unfolding Among
-by_symbol e name (inl is) = inl is
-by_symbol e name (inr behind) = grind arith
-
-none_below : (n : ℕ) → n < 0 → ⊥
-none_below n less = omega arith
+by_symbol e name is = grind arith
 
 -- What is linked of libraries.
 
@@ -287,27 +276,21 @@ null_or_member machine libraries m (x ∷ members) held =
     ]
 
 pub member_with : (machine : MachineType) (libraries : List Library) (m : MemberView) (members : List MemberView) → Among m members → Among m (with_first_null machine libraries members)
-unfolding Among
-member_with machine libraries m [] held = absurd held
-member_with machine libraries m (x ∷ members) held = among_back m (first_null machine libraries) (x ∷ members) held
+member_with machine libraries m members held = grind (arith, among_back)
 
 pub null_with : (machine : MachineType) (libraries : List Library) (m x : MemberView) (members : List MemberView) → Among m (first_null machine libraries) → Among x members →
     Among m (with_first_null machine libraries members)
 unfolding Among
-null_with machine libraries m x [] null held = absurd held
-null_with machine libraries m x (y ∷ members) null held = among_front m (first_null machine libraries) (y ∷ members) null
+null_with machine libraries m x members null held = grind (arith, among_front)
 
 module _ (machine : MachineType) (libraries : List Library) (archive : IsMsvcArchive machine libraries) where
   pub made_of : (l : Library) → Among l libraries → IsMsvcLibrary machine l
   made_of l held = all_among (IsMsvcLibrary machine) l libraries held archive.made
 
-  first_held : (l : Library) (rest : List Library) → libraries ≡ l ∷ rest → Among l libraries
-  first_held l rest is = subst (Among l) (sym is) (among_first l rest)
-
   -- the null descriptor of any library is taken for the same object
   pub null_tables : (before behind : List MemberView) (dll : NamesOfDll) (l : Library) → Among l libraries → expanded_in machine (null_member machine dll.linked).bytes ≡ Some (taken_null machine) →
       objects_taken machine (before ++ (first_null machine libraries ++ behind)) ≡ objects_taken machine (before ++ null_member machine dll.linked ∷ behind)
-  null_tables before behind dll l held is = grind (arith, in_nothing, objects_with_null, null_is, made_of, first_held)
+  null_tables before behind dll l held is = grind (arith, in_nothing, objects_with_null, null_is, made_of)
 
 -- What is linked of a library has no more symbols than the archive lists.
 

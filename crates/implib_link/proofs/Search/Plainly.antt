@@ -25,17 +25,9 @@ use Rattle.std.proofs.lemmas.Option.{same_Some}
 not_weak : (e : Entry) (name : List ℕ) → undefined_name e ≡ Some name → is_weak_entry e ≡ false
 not_weak e name is = grind arith
 
-pub left_plain : (o : Object) (name : List ℕ) → Among name (undefined_in o) → Among name (undefined_in (without_weak o))
-unfolding undefined_in without_weak
-left_plain o name held = search (rules, kept_from undefined_name o.entries name held, kept_into, passes, not_from_false, not_weak)
-
 pub left_weak : (o : Object) (name : List ℕ) → Among name (undefined_in (without_weak o)) → Among name (undefined_in o)
 unfolding undefined_in without_weak
 left_weak o name held = grind (arith, kept_from, kept_into, among_filter)
-
-pub claimed_weak : (o : Object) (name : List ℕ) → Among name (claimed_names (without_weak o)) → Among name (claimed_names o)
-unfolding without_weak
-claimed_weak o name held = grind (arith, kept_from, kept_into, among_filter)
 
 pub claimed_either : (o : Object) (name : List ℕ) → Among name (claimed_names o) → Among name (claimed_names (without_weak o)) ⊎ Among name (weak_names o)
 unfolding without_weak weak_names
@@ -47,35 +39,26 @@ claimed_either o name held =
           (passes (λ e. not (is_weak_entry e)) from.0 o.entries from.1 (not_from_false (is_weak_entry from.0) plain)) from.2)
     ]
 
-pub weak_claimed : (o : Object) (name : List ℕ) → Among name (weak_names o) → Among name (claimed_names o)
-unfolding weak_names
-weak_claimed o name held = grind (arith, kept_from, kept_into, among_filter)
-
 -- Of objects, whatever reads them: what they leave and claim with their weak externals, and without.
 
 module _ (os : List Object) (name : List ℕ) where
   left_without : Among name (flat_map undefined_in os) → Among name (flat_map undefined_in (map without_weak os))
+  unfolding undefined_in without_weak
   left_without held =
       let from = among_flat_map undefined_in name os held in
-      among_flat undefined_in (without_weak from.0) (map without_weak os) name (among_map without_weak from.0 os from.1) (left_plain from.0 name from.2)
-
-  left_with : Among name (flat_map undefined_in (map without_weak os)) → Among name (flat_map undefined_in os)
-  left_with held = grind (arith, among_flat_map, among_mapped, among_flat, left_weak)
+      among_flat undefined_in (without_weak from.0) (map without_weak os) name (among_map without_weak from.0 os from.1)
+      (search (rules, kept_from undefined_name from.0.entries name from.2, kept_into, passes, not_from_false, not_weak))
 
   -- a name that an object claims by what is no weak external
   claims_plain : Among name (flat_map claimed_names (map without_weak os)) → (o : Object) × Among o os × Among name (claimed_names (without_weak o))
   claims_plain held = grind (arith, among_flat_map, among_mapped)
-
-  -- a name that is unresolved with weak externals is so without
-  still_left : Among name (unresolved os) → Among name (unresolved (map without_weak os))
-  still_left held = grind (arith, unresolved_parts, unresolved_from, left_without, claims_plain, among_flat, claimed_weak)
 
   -- and one that is so without is so with them, or is that of one
   left_or_weak : Among name (unresolved (map without_weak os)) → Among name (unresolved os) ⊎ (o : Object) × Among o os × Among name (weak_names o)
   left_or_weak held =
       let parts = unresolved_parts (map without_weak os) name held in
       elim (cases_Bool (list_any (bytes_eq name) (flat_map claimed_names os))) [
-        | inr none ↦ inl (unresolved_from os name (left_with parts.0) (there_not name (flat_map claimed_names os) none))
+        | inr none ↦ inl (unresolved_from os name (grind (arith, among_flat_map, among_mapped, among_flat, left_weak)) (there_not name (flat_map claimed_names os) none))
         | inl claimed ↦
             let from = among_flat_map claimed_names name os (any_among name (flat_map claimed_names os) claimed) in
             elim (claimed_either from.0 name from.2) [
@@ -113,25 +96,23 @@ module _ (reads : List ℕ → Option Object) where
     plain_objects taken = ap (λ os. map without_weak own ++ os) (plain_members taken) ∙ sym (map-append without_weak own (objects_as reads taken))
 
     pub still : (taken : List MemberView) (name : List ℕ) → Contains (unresolved (own ++ objects_as reads taken)) name → Contains (left_plainly reads own taken) name
-    still taken name held = grind (arith, plain_objects, among_contains, still_left, contains_among)
+    unfolding without_weak
+    still taken name held = grind (arith, plain_objects, among_contains, contains_among, unresolved_parts, unresolved_from, left_without, claims_plain, among_flat, kept_from, kept_into, among_filter)
 
     pub leaves : (taken : List MemberView) (name : List ℕ) → Contains (flat_map undefined_in (own ++ objects_as reads taken)) name → AreOnlyWeak (own ++ objects_as reads taken) name →
         Contains (left_plainly reads own taken) name
     leaves taken name held only = grind (arith, plain_objects, among_contains, left_by_weak, contains_among)
 
     module _ (none : HaveNoWeak own) where
-      own_none : (o : Object) (name : List ℕ) → Among o own → Among name (weak_names o) → ⊥
-      unfolding weak_names
-      own_none o name held among = grind (arith, kept_from, passing, true≢false, none_among, all_among)
-
       -- what is left without weak externals is left with them, or is the name of one of a member
       either : (taken : List MemberView) (name : List ℕ) → Contains (left_plainly reads own taken) name →
           Contains (unresolved (own ++ objects_as reads taken)) name ⊎ NameAs reads weak_names name taken
+      unfolding weak_names
       either taken name held =
           elim (left_or_weak (own ++ objects_as reads taken) name
           (contains_among name (unresolved (map without_weak (own ++ objects_as reads taken))) (subst (λ os. Contains (unresolved os) name) (plain_objects taken) held))) [
             | inl held ↦ inl (among_contains name (unresolved (own ++ objects_as reads taken)) held)
-            | inr weak ↦ grind (arith, among_either, own_none, kept_from)
+            | inr weak ↦ grind (arith, among_either, kept_from, passing, true≢false, none_among, all_among)
           ]
 
       pub left : (taken : List MemberView) (name : List ℕ) → Contains (left_plainly reads own taken) name → (Contains (unresolved (own ++ objects_as reads taken)) name → ⊥) → IsWeakAmong reads taken name
@@ -183,10 +164,11 @@ weak reads archive own taken first none = weak_takes reads own none archive take
 module _ (machine : MachineType) (libraries : List FlavorLibrary) (archive : IsFlavorArchive machine libraries) where
   -- what is taken of libraries: each claims what it is listed for, and is the first
   are_first : (reads : List ℕ → Option Object) (own : List Object) (taken : List MemberView) → AreTakenIntoAs reads (archive_of_both libraries) own taken → AreFirst (expanded_in machine) (archive_of_both libraries) taken
+  unfolding weak_names
   are_first reads own taken turn x o name held read among =
       let by = pulled reads (archive_of_both libraries) (unresolved own) taken (in_turn_for reads (archive_of_both libraries) own taken turn) x held in
       let one : IsFirstAs (expanded_in machine) (archive_of_both libraries) x = grind (arith, first_by_role machine libraries archive (expanded_in machine) (is_weak_in machine) (expands machine libraries archive) x (found machine libraries archive by.0 x by.1).has) in
-      one.first name (subst (Among name) one.claims (subst (λ y. Among name (claimed_names y)) (same_Some o one.object (sym read ∙ one.read)) (weak_claimed o name among)))
+      one.first name (subst (Among name) one.claims (subst (λ y. Among name (claimed_names y)) (same_Some o one.object (sym read ∙ one.read)) (grind (arith, kept_from, kept_into, among_filter))))
 
   pub libraries_plain : (own : List Object) (taken : List MemberView) → HaveNoWeak own → TakesIntoFor machine (archive_of_both libraries) own taken →
       TakesPlainly (expanded_in machine) (archive_of_both libraries) own taken

@@ -182,32 +182,27 @@ left_as_role machine flavor l (Weak n e b) found = left_weak machine (weak_symbo
 
 pub weak_as : (machine : MachineType) (flavor : Flavor) (l : Library) (r : Role) → has_weak (Some (object machine flavor l r)) ≡ is_weak_role r
 unfolding head_object tail_object
-weak_as machine flavor l Top = grind (arith, descriptor_not_weak)
 weak_as machine Msvc l Last = thunk_not_weak machine (names_for Msvc l.definition)
-weak_as machine Gnu l Last = refl
 weak_as machine flavor l Null = null_not_weak machine
 weak_as machine Msvc l (Own n e) = asking_not_weak machine (names_for Msvc l.definition) (short_import_symbol e) (ask_in Msvc machine e) (use_for e)
 weak_as machine Gnu l (Own n e) = export_entries machine (names_for Gnu l.definition) e
 weak_as machine flavor l (Weak n e b) = weak_is_weak machine (weak_symbol flavor e b) (weak_target e b)
+weak_as machine flavor l r = grind (arith, descriptor_not_weak)
 
 -- What members for GNU's linker are read as: as objects, and so are they taken.
 module _ (machine : MachineType) (l : Library) (made : IsLibrary machine l) where
-  weak_plain : (weak target : List ℕ) → taken_weak machine weak target ≡ object_of (weak_object machine weak target)
-  unfolding with_section_symbols weak_object object_of entries_of name_text
-  weak_plain weak target = refl
-
   pub plain_as : (libraries : List FlavorLibrary) (r : Role) → IsRole libraries (in_flavor Gnu l) r → object_in (member machine Gnu l r).bytes ≡ Some (object machine Gnu l r)
-  plain_as libraries r is = grind (arith, head_object_is, tail_object_is, export_object_is, weak_object_is, weak_plain)
+  unfolding with_section_symbols weak_object object_of entries_of name_text
+  plain_as libraries r is = grind (arith, head_object_is, tail_object_is, export_object_is, weak_object_is)
 
   gnu_taken : (libraries : List FlavorLibrary) (r : Role) → IsRole libraries (in_flavor Gnu l) r → expanded_in machine (member machine Gnu l r).bytes ≡ Some (object machine Gnu l r)
   gnu_taken libraries Top is = head_taken l.definition machine l.members made
   gnu_taken libraries Last is = tail_taken l.definition machine l.members made
-  gnu_taken libraries Null is = absurd is
   gnu_taken libraries (Own n e) is = export_taken l.definition machine l.members made n e is.0
-  gnu_taken libraries (Weak n e true) is = absurd is.1
   gnu_taken libraries (Weak n e false) is =
       let p : MemberSpec = weak_spec machine (weak_name (linked_name l.definition) n) e.name e.alias_target in
       spec_taken l.definition machine l.members made p _ _ refl (spec_held l.definition machine l.members made n e p is.0 (weak_there machine l made n e is.1.0)) (weak_object_is machine l made n e is.0 is.1.0)
+  gnu_taken libraries r is = grind arith
 
 -- What a linker for a machine takes members for.
 

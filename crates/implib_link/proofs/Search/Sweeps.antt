@@ -17,11 +17,10 @@ use Rattle.std.proofs.lemmas.Option.{same_Some, slice_get_within}
 -- a symbol has one number, where all symbols differ
 pub one_number : (archive : List MemberView) (name : List ℕ) (n k : ℕ) (m x : MemberView) → IsDistinct bytes_eq (all_listed archive) → slice_get archive n ≡ Some m → slice_get archive k ≡ Some x →
     Among name m.symbols → Among name x.symbols → n ≡ k
-one_number [] name n k m x distinct at other listed again = cc
-one_number (y ∷ archive) name zero zero m x distinct at other listed again = refl
 one_number (y ∷ archive) name zero (suc k) m x distinct at other listed again = grind (arith, all_listed archive, among_listed name x archive (among_at x archive k other) again, among_at x archive k other, distinct_apart)
 one_number (y ∷ archive) name (suc n) zero m x distinct at other listed again = grind (arith, all_listed archive, among_listed name m archive (among_at m archive n at) listed, among_at m archive n, distinct_apart)
 one_number (y ∷ archive) name (suc n) (suc k) m x distinct at other listed again = grind (arith, one_number archive name n k m x (distinct_later y.symbols (all_listed archive) distinct))
+one_number archive name n k m x distinct at other listed again = cc
 
 pub none_first : (name : List ℕ) (some : List MemberView) (m : MemberView) → first_listed some name ≡ None → Among m some → Among name m.symbols → ⊥
 unfolding Among
@@ -31,9 +30,6 @@ none_first name (x ∷ some) m none held listed = grind (arith, none_first name 
 -- no two numbers' members are listed for a name
 abbrev pub IsOnce : List MemberView → List ℕ → Type 0
 IsOnce archive name = (n k : ℕ) (m x : MemberView) → slice_get archive n ≡ Some m → Among name m.symbols → slice_get archive k ≡ Some x → Among name x.symbols → n ≡ k
-
-same_less : (n k : ℕ) → n ≡ k → n ≤ k
-same_less n k is = omega (arith, is)
 
 pub once_by : (archive : List MemberView) (name : List ℕ) → IsDistinct bytes_eq (all_listed archive) → IsOnce archive name
 once_by archive name distinct n k m x at listed other again = one_number archive name n k m x distinct at other listed again
@@ -202,7 +198,8 @@ module _ (reads : List ℕ → Option Object) (archive : List MemberView) (own :
     unfolding AreTakenIntoAs
     sweeps_take count numbers takes = record {
       in_turn = subst (λ ns. AreTakenIntoAs reads archive own (members_at archive ns)) takes.taken
-          (sweeps_in_turn own (λ n. Unit {0}) (λ ns kept name left n held k m x at listed other again. same_less n k (once_by archive name distinct n k m x at listed other again)) (index_of archive) (λ e held. (all_entries archive e held, λ ns pulls. pulls)) count [] (λ n held. tt) tt);
+          (sweeps_in_turn own (λ n. Unit {0}) (λ ns kept name left n held k m x at listed other again.
+          (omega (arith, (once_by archive name distinct n k m x at listed other again)))) (index_of archive) (λ e held. (all_entries archive e held, λ ns pulls. pulls)) count [] (λ n held. tt) tt);
       ended = λ name m pulls.
           let from = listed_is archive name m pulls.listed in
           let at = at_index m archive from.0 in

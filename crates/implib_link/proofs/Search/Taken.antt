@@ -23,7 +23,7 @@ use Rattle.implib_link.proofs.Search.Closing.{AreTakenInTurnAs, IsFirstAs, Takes
 use Rattle.implib_link.proofs.Search.FlavorGroups.{first_held, gnu_there, msvc_there, there_gnu, there_msvc, Found, HasRole, IsReader, by_name, expands, finds, first_by_role, found, left_by_role, weak_by_role}
 use Rattle.implib_link.proofs.Search.Lists.{all_from as all_each, among_at, among_either, among_mapped, as_name, contains_among, from_not, name_as, passes, passing}
 use Rattle.implib_link.proofs.Search.MsvcMembers.{member_with, null_or_member, null_with, null_of}
-use Rattle.implib_link.proofs.Search.Roles.{IsNull, IsRole, Last, Null, Own, Role, Top, Weak, in_flavor, is_weak_role, last_symbol, left, left_as_role, left_top, member, object, symbols, weak_symbol, listed_as, top_symbol, weak_target}
+use Rattle.implib_link.proofs.Search.Roles.{IsNull, IsRole, Last, Null, Own, Role, Top, Weak, in_flavor, is_weak_role, last_symbol, left, left_as_role, member, object, symbols, weak_symbol, listed_as, top_symbol, weak_target}
 use Rattle.implib_link.proofs.Search.ArchiveMembers.{only_one}
 use Rattle.implib.specs.Members.Gnu.{head_symbol, iname_symbol}
 use Rattle.implib.specs.Members.MsvcObjects.{descriptor_symbol, null_descriptor_symbol, null_thunk_symbol}
@@ -155,14 +155,10 @@ module _ (machine : MachineType) (libraries : List FlavorLibrary) (archive : IsF
           let is : IsRole libraries l (Own any.number any.export) = (any.is, own_chosen l.flavor all_wanted any.export any.want) in
           reach l.flavor l.library (Own any.number any.export) held is (own_taken l any.number any.export held is any.want) l.flavor l.library Top _ held tt (among_first _ _) (among_first _ _)
 
-      last_left : (flavor : Flavor) (l : Library) → Among (last_symbol machine flavor l) (left_top machine flavor l)
-      last_left Gnu l = among_first _ _
-      last_left Msvc l = among_later _ _ _ (among_first _ _)
-
       -- and whatever is needed is taken
       pub taken_if_needed : (l : FlavorLibrary) (r : Role) → Among l libraries → IsRole libraries l r → Why all_wanted l r → Among (member machine l.flavor l.library r) taken
       taken_if_needed l Top held is why = top_taken l held why
-      taken_if_needed l Last held is why = reach l.flavor l.library Top held tt (top_taken l held why) l.flavor l.library Last _ held tt (last_left l.flavor l.library) (among_first _ _)
+      taken_if_needed l Last held is why = reach l.flavor l.library Top held tt (top_taken l held why) l.flavor l.library Last _ held tt (grind (arith, among_first, among_later)) (among_first _ _)
       taken_if_needed l Null held is (x, there, any) = reach Msvc x Top there tt (top_taken (in_flavor Msvc x) there any) l.flavor l.library Null _ held is (among_first _ _) (among_first _ _)
       taken_if_needed l (Own n e) held is why = own_taken l n e held is why
       taken_if_needed l (Weak n e b) held is why = wanted_taken l.flavor l.library (Weak n e b) _ held is (among_first _ _) why
@@ -209,10 +205,8 @@ module _ (machine : MachineType) (libraries : List FlavorLibrary) (archive : IsF
       IsOther m = Among m taken × (weak m ≡ false)
 
       pub as_other : (m : MemberView) (l : FlavorLibrary) (r : Role) → Among l libraries → IsRole libraries l r → Why all_wanted l r → m ≡ member machine l.flavor l.library r → is_weak_role r ≡ false → IsOther m
-      as_other m l r held is why same plain = (
-        subst (λ x. Among x taken) (sym same) (taken_if_needed l r held is why),
-        weak_by_role machine libraries archive reads weak reader m (record { library = l; held = held; role = r; is = is; same = same }) ∙ plain,
-      )
+      as_other m l r held is why same plain =
+          grind (arith, taken_if_needed l r held is why, weak_by_role machine libraries archive reads weak reader m (record { library = l; held = held; role = r; is = is; same = same }))
 
       pub linked_other : (m : MemberView) (l : FlavorLibrary) → Among l libraries → AnyOf all_wanted l → IsLinked machine all_wanted l m → IsOther m
       linked_other m l held any (TheTop same) = as_other m l Top held tt any same refl
@@ -348,24 +342,26 @@ module _ (machine : MachineType) (libraries : List FlavorLibrary) (archive : IsF
   abbrev own_targets : ExportView → List (List ℕ)
   own_targets e = e.alias_target ∷ imp_symbol e.alias_target ∷ []
 
-  of_two : (e : ExportView) (b : Bool) → Among (weak_target e b) (own_targets e)
-  of_two e false = among_first _ _
-  of_two e true = among_later _ _ _ (among_first _ _)
-
   target_in : (flavor : Flavor) (l : Library) (n : ℕ) (e : ExportView) (b : Bool) → Among (in_flavor flavor l) libraries → IsRole libraries (in_flavor flavor l) (Weak n e b) → Among (weak_target e b) (targets_of_both libraries)
   target_in Gnu l n e true held is = absurd is.1
   target_in Gnu l n e false held is = grind (arith, data_target (gnu_among libraries) l n e (gnu_there libraries l held) is.0 is.1.0 is.1.1, gnu_there libraries l held, among_front)
   target_in Msvc l n e b held is =
-      grind (arith, weak_target e b, msvc_there libraries l held, passes is_short_alias e (exports_of l) (among_at e (exports_of l) n is.0) is.1, among_at e (exports_of l) n is.0, of_two e b, among_back, among_flat)
+      grind (
+        arith,
+        weak_target e b,
+        msvc_there libraries l held,
+        passes is_short_alias e (exports_of l) (among_at e (exports_of l) n is.0) is.1,
+        among_at e (exports_of l) n is.0,
+        among_back,
+        among_flat,
+        among_first,
+        among_later,
+      )
 
   -- a weak external leaves the target of an alias
   weak_left : (l : FlavorLibrary) (r : Role) (name : List ℕ) → Among l libraries → IsRole libraries l r → is_weak_role r ≡ true → Among name (left machine l.flavor l.library r) →
       Among name (targets_of_both libraries)
-  weak_left l Top name held is one named = absurd (true≢false (sym one))
-  weak_left l Last name held is one named = absurd (true≢false (sym one))
-  weak_left l Null name held is one named = absurd (true≢false (sym one))
-  weak_left l (Own n e) name held is one named = absurd (true≢false (sym one))
-  weak_left l (Weak n e b) name held is one named = subst (λ x. Among x (targets_of_both libraries)) (sym (only_one name _ named)) (target_in l.flavor l.library n e b held is)
+  weak_left l r name held is one named = grind (arith, true≢false, only_one, target_in)
 
   module _ (reads : List ℕ → Option Object) (weak : MemberView → Bool) (reader : IsReader machine libraries archive reads weak) (taken : List MemberView)
       (turn : AreTakenInTurnAs reads (archive_of_both libraries) (unresolved own) taken) where
@@ -423,10 +419,9 @@ module _ (machine : MachineType) (libraries : List FlavorLibrary) (archive : IsF
     left_kept Gnu l Top name held is named = kept_as name _ (last_kept Gnu l held) named
     left_kept Msvc l Top name held is (inl named) = kept_as name _ (null_kept l held) (inl named)
     left_kept Msvc l Top name held is (inr named) = kept_as name _ (last_kept Msvc l held) named
-    left_kept flavor l Last name held is named = absurd named
-    left_kept flavor l Null name held is named = absurd named
     left_kept flavor l (Own n e) name held is named = kept_as name _ (top_kept flavor l held) named
     left_kept flavor l (Weak n e b) name held is named = kept_as name _ (target_kept _ (target_in flavor l n e b held is)) named
+    left_kept flavor l r name held is named = grind arith
 
     left_of : (name : List ℕ) → Among name (flat_map undefined_in (objects_as reads taken)) → Among name kept
     left_of name named =

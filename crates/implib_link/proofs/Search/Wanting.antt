@@ -32,9 +32,8 @@ names_wanted names own = grind (arith, all_left, none_claimed, filter-append)
 -- What is linked is the same where each name has the same definitions.
 module _ (machine : MachineType) (first second : List Placed) (same : (name : List ℕ) → definitions_of name first ≡ definitions_of name second) where
   in_same : (p : Placed) (group : Group) (addresses : List SectionAddress) (sections : List ObjectSection) → contributions_in machine first p group addresses sections ≡ contributions_in machine second p group addresses sections
-  in_same p group [] sections = refl
-  in_same p group (address ∷ addresses) [] = refl
   in_same p group (address ∷ addresses) (s ∷ sections) = grind (arith, in_same p group addresses sections)
+  in_same p group addresses sections = cc
 
   contributions_same : (group : Group) (objects : List Placed) → contributions machine first group objects ≡ contributions machine second group objects
   contributions_same group [] = refl

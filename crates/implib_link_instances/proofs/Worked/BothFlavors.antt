@@ -1,5 +1,5 @@
 -- The closed program of both flavours that was linked by hand, by computing and by the laws.
-use Rattle.std.proofs.Common.{List, [], arith, codes, false, map, refl, sym, true, ℕ, ◌++◌, ◌<◌, ◌^◌, ◌∙◌, ◌∷◌, ◌≡◌}
+use Rattle.std.proofs.Common.{List, [], arith, codes, false, map, refl, sym, true, ℕ, ◌++◌, ◌∙◌, ◌∷◌, ◌≡◌}
 use Rattle.std.specs.Prelude.{IsPermutation, bytes_eq, not}
 use Rattle.std.specs.List.{AllByRecursion, Contains, filter, flat_map, list_all, list_any}
 use Rattle.std.proofs.lemmas.Bool.{true≢false}
@@ -9,7 +9,7 @@ use Rattle.implib.specs.Formats.Object.{Object}
 use Rattle.implib.specs.Members.MemberSpec.{MemberView}
 use Rattle.implib.specs.Members.MsvcObjects.{descriptor_symbol, null_descriptor_symbol}
 use Rattle.implib.proofs.Link.LinkedMembers.{among_map}
-use Rattle.implib_link.specs.Flavors.Program.{AreEnded, Ending, FlavorInput, OfMember, objects_taken, ClaimsNone, has_tables, group_end, packed_end, sections_end, packed}
+use Rattle.implib_link.specs.Flavors.Program.{AreEnded, Ending, FlavorInput, OfMember, objects_taken, ClaimsNone, has_tables, group_end, packed_end, sections_end}
 use Rattle.implib_link.specs.Search.Search.{IsArchive, IsLibrary, symbols_of_library, listed_in}
 use Rattle.implib_link.specs.Search.Libraries.{AreClosed, AreGiven, FlavorLibrary, IsClosed, IsFlavorArchive, NamesNoMembers, archive_of_both, gnu_among, inputs_in, msvc_among, LinksClosed, left_in, IsMsvcArchive, IsMsvcLibrary, TakesIntoFor, symbols_of_all_shorts, symbols_of_shorts, wanted_for, weak_in}
 use Rattle.implib_link_instances.specs.Worked.BothFlavors.{WorkedBoth, WorkedGiven, foo_and_zed, mixed_bases, mixed_objects, mixed_taken, zed_and_foo, choosing, foo_linked}
@@ -18,11 +18,10 @@ use Rattle.implib_link.proofs.Search.BothClosed.{closed_links_of_both, packed_bo
 use Rattle.implib_link.proofs.Search.Ends.{into_ends, search_bounded}
 use Rattle.implib_link.proofs.Search.Lists.{among_any, contains_among}
 use Rattle.implib_link_instances.proofs.Worked.Search.{searched, below_limit, into_by}
-use Rattle.implib_link_instances.proofs.Worked.Programs.{all_differ, claims_none_by, distinct_by, opened}
+use Rattle.implib_link_instances.proofs.Worked.Programs.{all_differ, claims_none_by, distinct_by}
 use Rattle.implib_link.specs.Flavors.Expansion.{descriptor_symbol_by_name, expanded_in}
 use Rattle.implib.specs.LibraryName.{linked_dll}
 use Rattle.implib.specs.declared.machine.MachineType.{MachineType}
-use Rattle.implib.specs.Link.Placement.{next_multiple}
 
 abbrev own : List Object
 own = choosing ∷ []

@@ -1,5 +1,5 @@
 -- Worked code with its linked bytes computed is linked beside the tables.
-use Rattle.std.proofs.Common.{Bool, List, None, Option, Some, [], ap, arith, codes, false, inl, inr, length, map, refl, subst, sym, true, true≢false, ℕ, ◌++◌, ◌+◌, ◌^◌, ◌∙◌, ◌∷◌, ◌≡◌, ◌≤◌}
+use Rattle.std.proofs.Common.{Bool, List, None, Option, Some, [], ap, arith, codes, false, length, map, refl, subst, sym, true, true≢false, ℕ, ◌++◌, ◌+◌, ◌^◌, ◌∙◌, ◌∷◌, ◌≡◌, ◌≤◌}
 use Rattle.std.specs.Prelude.{bytes_eq, if◌then◌else◌, not, slice_get, ◌&&◌, ◌==◌}
 use Rattle.std.specs.List.{AllByRecursion, Contains, list_all}
 use Rattle.std.proofs.lemmas.Bool.{and_from, and_parts, eq-eqb, eqb-true, not-true}
@@ -38,6 +38,7 @@ use Rattle.implib_link.proofs.Gnu.Stubs.{same_address}
 use Rattle.implib_link.proofs.Search.Lists.{among_at, contains_among, each_of}
 use Rattle.implib_link_instances.proofs.Worked.Lemmas.{image_base}
 use Rattle.implib.proofs.Link.Definitions.{same_text}
+pub use Rattle.implib_link.proofs.Search.ArchiveMembers.{only_one as one_of}
 
 -- What is computed of placed code beside the tables.
 
@@ -103,11 +104,6 @@ beside_by machine image_base bases objects codes targets by test =
 abbrev opened : Unit {0}
 unfolding digits u16_bytes u32_bytes export_object five_digits head_name head_object head_symbol hint_name iname_symbol numbered_name relocations_of_stub relocations_of_thunk mangled_name stub tail_name tail_object thunk next_multiple with_address export_spec head_spec tail_spec before_nul bytes_at data_at each_at entries_at name_of object_in object_of_header relocation_at relocation_of section_at section_of strings_at symbol_of u16_at u32_at up_to_nul auxiliary_bytes auxiliary_count contents contents_offset contents_size header_bytes encoded name_field offsets_from pointer_or_zero record_count records relocation_bytes section_header section_headers string_bytes_of string_offsets string_size string_table strings_size symbol_bytes symbol_table_offset long_names name_location layout_of symbol_written with_long_name with_name
 opened = tt
-
-pub one_of : {X : Type 0} (x k : X) → Among x (k ∷ []) → x ≡ k
-unfolding Among
-one_of x k (inl same) = same
-one_of x k (inr none) = absurd none
 
 pub wide : (machine : MachineType) (dll : List ℕ) (ask : Ask) → length (given_on machine dll ask) ≡ thunk_width machine
 unfolding u32_bytes

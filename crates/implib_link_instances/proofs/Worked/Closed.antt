@@ -1,5 +1,5 @@
 -- Closed programs that the linker's null descriptor ends, and a list of names in an object's place, by computing and by the laws.
-use Rattle.std.proofs.Common.{rules, List, [], arith, codes, inl, inr, map, refl, ◌++◌, ◌<◌, ◌^◌, ◌∷◌}
+use Rattle.std.proofs.Common.{rules, List, [], arith, codes, inl, inr, map, refl, ◌++◌, ◌∷◌}
 use Rattle.std.specs.List.{AllByRecursion}
 use Rattle.implib.specs.declared.machine.MachineType.TheVariants.{AMD64, I386}
 use Rattle.implib.specs.Formats.Object.{Object}
@@ -16,7 +16,7 @@ use Rattle.implib_link.proofs.Search.Lists.{contains_among}
 use Rattle.implib_link.proofs.Search.Wanting.{program_with}
 use Rattle.implib_link_instances.proofs.Worked.BothFlavors.{archive_by}
 use Rattle.implib_link_instances.proofs.Worked.Search.{searched, below_limit, into_by}
-use Rattle.implib_link_instances.proofs.Worked.Programs.{claims_none_by, opened, worked_programs}
+use Rattle.implib_link_instances.proofs.Worked.Programs.{claims_none_by, worked_programs}
 
 abbrev own : List Object
 own = choosing ∷ []
