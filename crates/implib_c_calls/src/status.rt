@@ -9,105 +9,105 @@ use crate::export::ExportFault;
 use crate::outcome::NoDelay;
 use implib::Fault;
 
-/// How a call ended, with the number that C gets.
+/// How a call ended.
 #[derive(Clone, Copy, Debug)]
 pub enum Status {
     /// Done.
-    Success = 0,
+    Success,
     /// The encoding is longer than the buffer.
-    BufferTooSmall = 1,
+    BufferTooSmall,
     /// An allocation failed.
-    OutOfMemory = 2,
+    OutOfMemory,
     /// The text is not UTF-8.
-    NotUtf8 = 3,
+    NotUtf8,
     /// No machine has this number.
-    UnknownMachine = 4,
+    UnknownMachine,
     /// No flavour has this number.
-    UnknownFlavor = 5,
+    UnknownFlavor,
     /// [`Fault::UnknownDirective`], and each further one by its name.
-    UnknownDirective = 16,
+    UnknownDirective,
     /// [`Fault::ExpectedIdentifier`].
-    ExpectedIdentifier = 17,
+    ExpectedIdentifier,
     /// [`Fault::ExpectedEqual`].
-    ExpectedEqual = 18,
+    ExpectedEqual,
     /// [`Fault::ExpectedInteger`].
-    ExpectedInteger = 19,
+    ExpectedInteger,
     /// [`Fault::InvalidOrdinal`].
-    InvalidOrdinal = 20,
+    InvalidOrdinal,
     /// [`Fault::LoneAt`].
-    LoneAt = 21,
+    LoneAt,
     /// [`Fault::EmptyImportName`].
-    EmptyImportName = 22,
+    EmptyImportName,
     /// [`Fault::NulInImportName`].
-    NulInImportName = 23,
+    NulInImportName,
     /// [`Fault::EmptyName`].
-    EmptyName = 24,
+    EmptyName,
     /// [`Fault::NulInExport`].
-    NulInExport = 25,
+    NulInExport,
     /// [`Fault::EmptyAskedName`].
-    EmptyAskedName = 26,
+    EmptyAskedName,
     /// [`Fault::MemberTooLong`], of the library and of an archive.
-    MemberTooLong = 27,
+    MemberTooLong,
     /// [`Fault::NoNameType`].
-    NoNameType = 28,
+    NoNameType,
     /// [`implib_archive::Fault::EmptyName`].
-    EmptyMemberName = 29,
+    EmptyMemberName,
     /// [`implib_archive::Fault::NulInName`].
-    NulInMemberName = 30,
+    NulInMemberName,
     /// [`implib_archive::Fault::LineEndInName`].
-    LineEndInMemberName = 31,
+    LineEndInMemberName,
     /// [`implib_archive::Fault::EmptySymbol`], and each further one by its name.
-    EmptySymbol = 32,
+    EmptySymbol,
     /// [`implib_archive::Fault::NulInSymbol`].
-    NulInSymbol = 33,
+    NulInSymbol,
     /// [`implib_archive::Fault::TooManyMembers`].
-    TooManyMembers = 34,
+    TooManyMembers,
     /// [`implib_archive::Fault::ArchiveTooLong`].
-    ArchiveTooLong = 35,
+    ArchiveTooLong,
     /// [`Fault::EmptyLibraryName`].
-    EmptyLibraryName = 36,
+    EmptyLibraryName,
     /// [`Fault::NulInLibraryName`].
-    NulInLibraryName = 37,
+    NulInLibraryName,
     /// [`Fault::LineEndInLibraryName`].
-    LineEndInLibraryName = 38,
+    LineEndInLibraryName,
     /// By the rules of the program, no name of the DLL is given.
-    NoDllName = 39,
+    NoDllName,
     /// The size of the options is that of none that the header knows.
-    UnknownOptions = 40,
+    UnknownOptions,
     /// No options have these flags.
-    UnknownFlags = 41,
+    UnknownFlags,
     /// The name of the DLL that is given is not UTF-8.
-    DllNotUtf8 = 42,
+    DllNotUtf8,
     /// An export has an unknown flag.
-    UnknownExportFlags = 43,
+    UnknownExportFlags,
     /// A name of an export is not UTF-8.
-    ExportNotUtf8 = 44,
+    ExportNotUtf8,
     /// A pointer of an export is null. The header alone gives it.
-    NullInExport = 45,
+    NullInExport,
     /// The bytes are no archive, or a thin one.
-    NotALibrary = 46,
+    NotALibrary,
     /// The bytes are no image: [`implib_dll::Fault`].
-    NotAnImage = 48,
+    NotAnImage,
     /// The image has no export directory.
-    NoExportDirectory = 49,
+    NoExportDirectory,
     /// A function of the header's caller did not take a piece of a library.
-    WriteFailed = 47,
+    WriteFailed,
     /// Delayed imports for Microsoft's linkers, and each further one: [`NoDelay`].
-    DelayFlavor = 50,
+    DelayFlavor,
     /// The machine has no code for delayed imports.
-    DelayMachine = 51,
+    DelayMachine,
     /// An export that is data is not delayed.
-    DelayData = 52,
+    DelayData,
     /// An export that is a weak name for another is not delayed.
-    DelayAlias = 53,
+    DelayAlias,
     /// The DLL is for another machine than the options.
-    OtherMachine = 54,
+    OtherMachine,
     /// The position of a DLL's name, or an ordinal without a name, is above 65,535.
-    ExportOutOfRange = 55,
+    ExportOutOfRange,
     /// A function's name has no reading as one of C++, by which ARM64EC marks it.
-    UnreadableName = 56,
+    UnreadableName,
     /// The native definition is refused.
-    NativeRefused = 57,
+    NativeRefused,
 }
 
 impl Status {
@@ -115,7 +115,56 @@ impl Status {
     pub fn number(self) -> u32
         ensures { result ≡ status_number self }
     {
-        self as u32
+        match self {
+            Status::Success => 0,
+            Status::BufferTooSmall => 1,
+            Status::OutOfMemory => 2,
+            Status::NotUtf8 => 3,
+            Status::UnknownMachine => 4,
+            Status::UnknownFlavor => 5,
+            Status::UnknownDirective => 16,
+            Status::ExpectedIdentifier => 17,
+            Status::ExpectedEqual => 18,
+            Status::ExpectedInteger => 19,
+            Status::InvalidOrdinal => 20,
+            Status::LoneAt => 21,
+            Status::EmptyImportName => 22,
+            Status::NulInImportName => 23,
+            Status::EmptyName => 24,
+            Status::NulInExport => 25,
+            Status::EmptyAskedName => 26,
+            Status::MemberTooLong => 27,
+            Status::NoNameType => 28,
+            Status::EmptyMemberName => 29,
+            Status::NulInMemberName => 30,
+            Status::LineEndInMemberName => 31,
+            Status::EmptySymbol => 32,
+            Status::NulInSymbol => 33,
+            Status::TooManyMembers => 34,
+            Status::ArchiveTooLong => 35,
+            Status::EmptyLibraryName => 36,
+            Status::NulInLibraryName => 37,
+            Status::LineEndInLibraryName => 38,
+            Status::NoDllName => 39,
+            Status::UnknownOptions => 40,
+            Status::UnknownFlags => 41,
+            Status::DllNotUtf8 => 42,
+            Status::UnknownExportFlags => 43,
+            Status::ExportNotUtf8 => 44,
+            Status::NullInExport => 45,
+            Status::NotALibrary => 46,
+            Status::WriteFailed => 47,
+            Status::NotAnImage => 48,
+            Status::NoExportDirectory => 49,
+            Status::DelayFlavor => 50,
+            Status::DelayMachine => 51,
+            Status::DelayData => 52,
+            Status::DelayAlias => 53,
+            Status::OtherMachine => 54,
+            Status::ExportOutOfRange => 55,
+            Status::UnreadableName => 56,
+            Status::NativeRefused => 57,
+        }
     }
 
     /// The status of a fault of the input.
